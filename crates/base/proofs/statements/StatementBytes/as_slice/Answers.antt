@@ -1,0 +1,7 @@
+use mathlib.Core.Path.{sym}
+use native.Mathlib.Omega.{arith}
+use Rattle.std.proofs.shelf.Lists.{take-all}
+use Rattle.base.proofs.statements.StatementBytes.as_slice.Needs as need
+
+pub returns-then-self-all : need.returns-then-self-all
+returns-then-self-all c = sym (take-all _ _ (omega arith))
