@@ -126,6 +126,9 @@ named-page Slct page other = refl
 named-page Dcid page other = refl
 named-page Rlse page other = refl
 
--- a slip that fits has 72 bytes
+-- a slip with marks of 32 bytes has 72
+pub slip-length : (s : Slip) → length (s .parent .0) ≡ 32 → length (s .own .0) ≡ 32 → length (slipBytes s) ≡ 72
+slip-length s p o = simp length-append (omega (arith, p, o))
+
 pub slip-long : (s : Slip) → SlipFits s → length (slipBytes s) ≡ 72
-slip-long s f = simp length-append (omega (arith, f .parent-fits, f .own-fits))
+slip-long s f = slip-length s (f .parent-fits) (f .own-fits)

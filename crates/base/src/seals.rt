@@ -39,8 +39,10 @@ impl Seal {
         Some(seal)
     }
 
+    // The bytes of the seal.
     pub fn as_slice(&self) -> &[u8]
-        ensures { λ r. ⌜ now r ≡ sealBytes (now (self .entry)) ⌝ }
+        ensures bytes { λ r. ⌜ now r ≡ sealBytes (now (self .entry)) ⌝ }
+        ensures small { λ r. ⌜ length (now r) ≤ 80 ⌝ }
     {
         let all: &[u8] = &self.bytes;
         if self.len > all.len() {

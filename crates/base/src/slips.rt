@@ -33,6 +33,16 @@ pub struct Slip {
 }
 
 impl Slip {
+    // How many bytes a slip has.
+    pub fn size(&self) -> usize
+        ensures size { λ r. ⌜ r ≡ length (slipBytes (now (self .entry))) ⌝ }
+        ensures is { λ r. ⌜ r ≡ 72 ⌝ }
+    {
+        let parent: &[u8] = &self.parent.0;
+        let own: &[u8] = &self.own.0;
+        parent.len() + own.len() + 8
+    }
+
     // Writes the 72 bytes from `at` on: parent mark, own mark, lots, maker; nothing where they do not fit.
     pub fn write(&self, out: &mut [u8], at: usize) -> bool
         ensures fits { λ r. ⌜ Decides r (at + 72 ≤ length (now (out .entry))) ⌝ }
