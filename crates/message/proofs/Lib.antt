@@ -1,3 +1,4 @@
 pub mod Reading
 pub mod Votes
 pub mod Shaping
+pub mod Lengths

@@ -3,6 +3,7 @@ pub mod Contents
 pub mod Shapes
 pub mod Encoding
 pub mod RoundTrip
+pub mod Sizes
 pub mod Comparing
 pub mod Views
 pub mod Steps

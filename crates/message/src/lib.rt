@@ -3,3 +3,4 @@ pub mod locks;
 pub mod parsing;
 pub mod readers;
 pub mod shapes;
+pub mod sizes;

@@ -1,36 +1,17 @@
 -- The outcome of a writer, from its test of the room and from its pieces.
-use Prim.Native.Nat.{ℕ, _+_, _*_, _≤_, _<_}
+use Prim.Native.Nat.{ℕ, _+_, _≤_}
 use mathlib.Core.Bool.{Bool, true, false, cond}
-use mathlib.Core.List.{List, [], _∷_, _++_}
+use mathlib.Core.List.{List}
 use mathlib.Core.Path.{_≡_, refl, sym, ap, subst, _∙_}
 use native.Mathlib.Omega.{arith}
 use lib.ListN.{length}
-use Rattle.std.proofs.shelf.Lists.{length-append}
 use Rattle.std.proofs.shelf.Ways.{tells}
 use Rattle.base.specs.Writing.{wrote}
 use Rattle.base.specs.declared.refusals.Refusal.the-variants.{Misshapen, OutboxShort}
-use Rattle.message.specs.Encoding.{Block, table, bodies, header, framed}
-use Rattle.message.specs.declared.shapes.Head.{Head}
 use Rattle.outbox.specs.Appending.{fits, appends, Appended, Adds}
 use Rattle.base.specs.declared.refusals.Refusal.{Refusal}
 use Rattle.std.specs.declared.result.Result.{Result}
 use Rattle.std.specs.declared.result.Result.the-variants.{Ok, Err}
-
-pub length-table : (bs : List Block) → length (table bs) ≡ 4 * length bs
-length-table [] = refl
-length-table (b ∷ bs) = let h = length-table bs in omega arith
-
--- the lengths of the bodies, summed
-abbrev pub weigh : List Block → ℕ
-weigh [] = 0
-weigh (b ∷ bs) = length (b .bytes) + weigh bs
-
-length-bodies : (bs : List Block) → length (bodies bs) ≡ weigh bs
-length-bodies [] = refl
-length-bodies (b ∷ bs) = length-append (b .bytes) (bodies bs) ∙ ap (λ n. length (b .bytes) + n) (length-bodies bs)
-
-pub length-framed : (kind : ℕ) (h : Head) (bs : List Block) → length (framed kind h bs) ≡ 12 + (4 * length bs + weigh bs)
-length-framed kind h bs = let t = length-table bs in let w = length-bodies bs in let e = length-append (table bs) (bodies bs) in omega arith
 
 module _ (lays : Bool) (bytes : List ℕ) (f need : ℕ) (out : List ℕ) (lay : lays ≡ true) (long : need ≡ length bytes) where
   pub too-short : false ≡ fits f need (length out) → Appended lays bytes f f out out (Err OutboxShort)

@@ -14,8 +14,9 @@ use Rattle.base.specs.declared.slips.Slip.{Slip}
 use Rattle.message.specs.Contents.{commit}
 use Rattle.message.specs.Encoding.{blocks, encoded, header}
 use Rattle.message.specs.declared.shapes.Head.{Head}
+use Rattle.message.proofs.Lengths.{length-framed}
 use Rattle.outbox.specs.Written.{sent}
-use Rattle.outbox.proofs.Outcomes.{length-framed, too-short, all-written}
+use Rattle.outbox.proofs.Outcomes.{too-short, all-written}
 use Rattle.outbox.proofs.Pieces.{adds-then, adds-as}
 use Rattle.outbox.proofs.writers.write_commit.Needs as need
 
