@@ -1,2 +1,3 @@
 pub mod Wrote
 pub mod Distinct
+pub mod Back

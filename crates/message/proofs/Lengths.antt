@@ -1,78 +1,79 @@
--- How long tables, bodies and whole messages are.
-use Prim.Native.Nat.{ℕ, suc, _+_, _*_}
-use native.Mathlib.Nat.{suc-mul, add-comm}
+-- Lawful fields are small enough for what is written of them: heights and rounds for four bytes, bodies' lengths for two.
+use Prim.Native.Nat.{ℕ, _+_, _*_, _≤_, _<_, _^_}
 use mathlib.Core.List.{List, [], _∷_, _++_, map}
-use mathlib.Core.Path.{_≡_, refl, sym, ap, _∙_}
+use mathlib.Core.Path.{_≡_, sym, subst}
 use native.Mathlib.Omega.{arith}
+use lib.Dec.{leb}
 use lib.ListN.{length}
 use Rattle.std.proofs.shelf.Lists.{length-append, length-map}
-use Rattle.base.specs.Pools.{quorum}
+use Rattle.std.proofs.shelf.Tests.{and-parts, leb-true}
+use Rattle.base.specs.Pools.{quorum, heightInRange, roundInRange}
 use Rattle.base.specs.Slips.{slipBytes}
 use Rattle.base.specs.declared.pools.Pool.{Pool}
+use Rattle.base.specs.declared.pools.Pool.the-variants.{Four, Seven, Ten}
 use Rattle.base.proofs.Distinct.{slip-long}
-use Rattle.message.specs.Contents.{Signed, Cert, Content, change, lock, select, commit, decide, release, Sent}
-use Rattle.message.specs.Encoding.{Block, table, bodies, framed, blocks, certBlocks, voteBlock, encoded, encodedLock, kindIn, Rising, Lawful, LawfulCert, LawfulContent}
-use Rattle.message.specs.Sizes.{certSize, sizeOf, namesSlip, Sizes-hold, Sizes-reckoned}
+use Rattle.message.specs.Contents.{Signed, Cert, Content, change, lock, select, commit, decide, release}
+use Rattle.message.specs.Encoding.{Block, blocks, certBlocks, voteBlock, bodies, framed, Rising, LawfulHead, LawfulCert, LawfulContent}
 use Rattle.message.specs.declared.shapes.Head.{Head}
+use Rattle.message.proofs.Written.{Short, length-framed}
 use Rattle.std.specs.declared.option.Option.the-variants.{Some, None}
 
-pub length-table : (bs : List Block) → length (table bs) ≡ 4 * length bs
-length-table [] = refl
-length-table (b ∷ bs) = let h = length-table bs in omega arith
+pub heads-small : (h : Head) → LawfulHead h → (h .height .0 < 2 ^ 32) × (h .round .0 < 2 ^ 32)
+heads-small h f =
+    let r = and-parts (heightInRange (h .height)) (roundInRange (h .round)) (f .in-range)
+    in let t = and-parts (leb 1 (h .height .0)) (leb (h .height .0) 4000000000) (r .0)
+    in let a : h .height .0 ≤ 4000000000 = leb-true _ _ (t .1)
+    in let b : h .round .0 ≤ 65535 = leb-true _ _ (r .1)
+    in (omega arith, omega arith)
 
--- the lengths of the bodies, summed
-abbrev pub weigh : List Block → ℕ
-weigh [] = 0
-weigh (b ∷ bs) = length (b .bytes) + weigh bs
+quorum-small : (p : Pool) → quorum p ≤ 7
+quorum-small Four = omega arith
+quorum-small Seven = omega arith
+quorum-small Ten = omega arith
 
-length-bodies : (bs : List Block) → length (bodies bs) ≡ weigh bs
-length-bodies [] = refl
-length-bodies (b ∷ bs) = length-append (b .bytes) (bodies bs) ∙ ap (λ n. length (b .bytes) + n) (length-bodies bs)
+votes-short : (sort n low : ℕ) (vs : List (Signed (List ℕ))) → n ≤ 80 → Rising n low vs → Short (map (voteBlock sort) vs)
+votes-short sort n low [] small rise = tt
+votes-short sort n low (v ∷ vs) small rise =
+    let long : length (v .seal) ≡ n = rise .1 .1 .0
+    in (omega arith, votes-short sort n (v .signer + 1) vs small (rise .1 .1 .1))
 
-pub length-framed : (kind : ℕ) (h : Head) (bs : List Block) → length (framed kind h bs) ≡ 12 + (4 * length bs + weigh bs)
-length-framed kind h bs = let t = length-table bs in let w = length-bodies bs in let e = length-append (table bs) (bodies bs) in omega arith
-
-once-more : (k n : ℕ) → suc k * n ≡ n + k * n
-once-more k n = suc-mul k n ∙ add-comm (k * n) n
-
--- seals of one length weigh as many times that length
-weigh-rising : (sort n low : ℕ) (vs : List (Signed (List ℕ))) → Rising n low vs → weigh (map (voteBlock sort) vs) ≡ length vs * n
-weigh-rising sort n low [] r = omega arith
-weigh-rising sort n low (v ∷ vs) r =
-    let h = weigh-rising sort n (v .signer + 1) vs (r .1 .1 .1)
-    in let e : length (v .seal) ≡ n = r .1 .1 .0
-    in ap (λ k. k + weigh (map (voteBlock sort) vs)) e ∙ ap (λ k. n + k) h ∙ sym (once-more (length vs) n)
-
-pub cert-size : (pool : Pool) (n kind sort : ℕ) (h : Head) (c : Cert (List ℕ)) → LawfulCert pool n c → length (framed kind h (certBlocks sort h c)) ≡ certSize (quorum pool) n
-cert-size pool n kind sort h c law =
-    let l = length-framed kind h (certBlocks sort h c)
-    in let w : weigh (map (voteBlock sort) (c .votes)) ≡ quorum pool * n = weigh-rising sort n 0 (c .votes) (law .votes-rise) ∙ ap (λ k. k * n) (law .quorate)
-    in let s : length (slipBytes (c .slip)) ≡ 72 = slip-long (c .slip) (law .slip-fits .0)
-    in let m : length (map (voteBlock sort) (c .votes)) ≡ length (c .votes) = length-map (c .votes) (voteBlock sort)
-    in let q = law .quorate
-    in let o = law .own-fits
+votes-long : (sort n low : ℕ) (vs : List (Signed (List ℕ))) → n ≤ 80 → Rising n low vs → length (bodies (map (voteBlock sort) vs)) ≤ 80 * length vs
+votes-long sort n low [] small rise = omega arith
+votes-long sort n low (v ∷ vs) small rise =
+    let long : length (v .seal) ≡ n = rise .1 .1 .0
+    in let rest = votes-long sort n (v .signer + 1) vs small (rise .1 .1 .1)
+    in let all = length-append (v .seal) (bodies (map (voteBlock sort) vs))
     in omega arith
 
-size-by : (pool : Pool) (n : ℕ) (h : Head) (c : Content (List ℕ)) → LawfulContent pool n h c → length (encoded (record { head = h; content = c })) ≡ sizeOf (kindIn c) (namesSlip c) pool n
-size-by pool n h (change None a b) law = let l = length-framed 1 h (blocks h (change None a b)) in omega (arith, law .1 .0, law .1 .1)
-size-by pool n h (change (Some s) a b) law =
-    let l = length-framed 1 h (blocks h (change (Some s) a b))
-    in let e = slip-long s (law .0 .0)
-    in omega (arith, law .1 .0, law .1 .1)
-size-by pool n h (lock c) law = cert-size pool n 2 3 h c law
-size-by pool n h (select c) law = cert-size pool n 3 2 h c law
-size-by pool n h (commit s a) law =
-    let l = length-framed 4 h (blocks h (commit s a))
-    in let e = slip-long s (law .0 .0)
-    in omega (arith, law .1)
-size-by pool n h (decide c) law = cert-size pool n 5 4 h c law
-size-by pool n h (release k inner b) law =
-    let l = length-framed 6 h (blocks h (release k inner b))
-    in let e : length k ≡ certSize (quorum pool) n = ap length (law .0) ∙ cert-size pool n 2 3 (inner .head) (inner .cert) (law .1 .1 .0)
-    in omega (arith, law .1 .1 .1 .1)
+pub short-cert : (sort : ℕ) (pool : Pool) (n : ℕ) (h : Head) (c : Cert (List ℕ)) → n ≤ 80 → LawfulCert pool n c → Short (certBlocks sort h c)
+short-cert sort pool n h c small f =
+    let slip : length (slipBytes (c .slip)) ≡ 72 = slip-long (c .slip) (f .slip-fits .0)
+    in let own : length (c .own) ≡ n = f .own-fits
+    in (omega arith, (omega arith, votes-short sort n 0 (c .votes) small (f .votes-rise)))
 
-pub sizes-hold : Sizes-hold
-sizes-hold pool n s law = size-by pool n (s .head) (s .content) (law .content-lawful)
+-- a lock message inside a release
+lock-short : (pool : Pool) (n : ℕ) (h : Head) (c : Cert (List ℕ)) → n ≤ 80 → LawfulCert pool n c → length (framed 2 h (certBlocks 3 h c)) < 65536
+lock-short pool n h c small f =
+    let votes : List Block = map (voteBlock 3) (c .votes)
+    in let all = length-framed 2 h (certBlocks 3 h c)
+    in let many = length-map (c .votes) (voteBlock 3)
+    in let first = length-append (slipBytes (c .slip)) (c .own ++ bodies votes)
+    in let second = length-append (c .own) (bodies votes)
+    in let slip : length (slipBytes (c .slip)) ≡ 72 = slip-long (c .slip) (f .slip-fits .0)
+    in let own : length (c .own) ≡ n = f .own-fits
+    in let rest = votes-long 3 n 0 (c .votes) small (f .votes-rise)
+    in let q = quorum-small pool
+    in let quorate : length (c .votes) ≡ quorum pool = f .quorate
+    in omega (arith, all, many, first, second, slip, own, rest, q, quorate)
 
-pub sizes-reckoned : Sizes-reckoned
-sizes-reckoned = record { change-112 = refl; change-none-36 = refl; commit-100 = refl; lock-136 = refl; release-164 = refl; lock-760 = refl; release-860 = refl }
+pub short-content : (pool : Pool) (n : ℕ) (h : Head) (c : Content (List ℕ)) → n ≤ 80 → LawfulContent pool n h c → Short (blocks h c)
+short-content pool n h (change None a b) small f = (omega arith, (omega arith, tt))
+short-content pool n h (change (Some s) a b) small f = let l = slip-long s (f .0 .0) in (omega arith, (omega arith, (omega arith, tt)))
+short-content pool n h (lock c) small f = short-cert 3 pool n h c small f
+short-content pool n h (select c) small f = short-cert 2 pool n h c small f
+short-content pool n h (commit s a) small f = let l = slip-long s (f .0 .0) in (omega arith, (omega arith, tt))
+short-content pool n h (decide c) small f = short-cert 4 pool n h c small f
+short-content pool n h (release l inner b) small f =
+    let all : length l < 65536 = (let P : List ℕ → Type 0 = λ m. length m < 65536 in subst P (sym (f .0)) (lock-short pool n (inner .head) (inner .cert) small (f .1 .1 .0)))
+    in let own : length b ≡ n = f .1 .1 .1 .1
+    in (omega arith, (omega arith, tt))

@@ -1,4 +1,11 @@
 pub mod Reading
 pub mod Votes
 pub mod Shaping
+pub mod Written
+pub mod Framed
 pub mod Lengths
+pub mod Putting
+pub mod Taking
+pub mod Holding
+pub mod Trips
+pub mod Sizing

@@ -7,6 +7,7 @@ ghost use Rattle.std.specs.Options.{Cases, mapped, okOr};
 ghost use Rattle.std.specs.declared.option.Option.the-variants.{None};
 ghost use Rattle.base.specs.declared.refusals.Refusal.the-variants.{Misshapen};
 ghost use Rattle.message.specs.Layout.{opens, left, whole};
+ghost use Rattle.message.specs.RoundTrip.{Round-trip};
 ghost use Rattle.message.specs.Shapes.{takeSlip, takeSeal, takePage, rising, certOf, commitOf, changeOf, headOf, inRange, lockOf, takeLock, releaseOf, contentOf, parsed};
 ghost use Rattle.message.specs.Steps.{Nexted, Took, OpenedAs};
 ghost use Rattle.message.specs.Views.{entryOf, pieceOf, placeOf, certView, lockView, innerView, holdsView, shown};
@@ -294,9 +295,11 @@ fn holds<'a>(
 }
 
 // Reads a message of a pool of that size with seals of that length: what it says, with its parts where they stand
-// in the message, or that it is misshapen.
+// in the message, or that it is misshapen. The law: what is written of lawful fields reads back as them, no other bytes
+// read as those fields, and what is read is lawful.
 pub fn parse<'a>(message: &'a [u8], pool: Pool, seal_len: usize) -> Result<Message<'a>, Refusal>
-    ensures { λ r. ⌜ shown r ≡ okOr (parsed pool «seal_len» (now (message .entry))) Misshapen ⌝ }
+    ensures reads { λ r. ⌜ shown r ≡ okOr (parsed pool «seal_len» (now (message .entry))) Misshapen ⌝ }
+    ensures law { λ _. ⌜ Round-trip ⌝ }
 {
     let Some(Opened { kind, head, bodies }) = open(message) else {
         return Err(Refusal::Misshapen);

@@ -10,7 +10,7 @@ use Rattle.base.specs.Seals.{sealBytes}
 use Rattle.base.specs.declared.seals.Vote.{Vote}
 use Rattle.message.specs.Encoding.{Block, table, bodies, voteBlock}
 use Rattle.outbox.specs.Written.{signedBy, sealsLength, voteBlocks}
-use Rattle.message.proofs.Lengths.{weigh}
+use Rattle.message.proofs.Sizing.{weigh}
 
 abbrev pub blank : Vote
 blank = record { member = record { 0 = 0 }; seal = record { bytes = []; len = 0 } }

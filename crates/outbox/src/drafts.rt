@@ -16,6 +16,7 @@ use base::writing::put;
 use message::shapes::Head;
 
 // How many bytes of an outbox are taken.
+#[derive(Drop)]
 pub struct Fill {
     pub len: usize,
 }

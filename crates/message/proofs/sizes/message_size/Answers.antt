@@ -1,4 +1,4 @@
-use Rattle.message.proofs.Lengths.{sizes-hold, sizes-reckoned}
+use Rattle.message.proofs.Sizing.{sizes-hold, sizes-reckoned}
 use Rattle.message.proofs.sizes.message_size.Needs as need
 
 pub returns : need.returns

@@ -15,7 +15,7 @@ use Rattle.base.specs.declared.seals.Vote.{Vote}
 use Rattle.base.specs.declared.slips.Slip.{Slip}
 use Rattle.message.specs.Encoding.{certBlocks, framed, header, table, bodies}
 use Rattle.message.specs.declared.shapes.Head.{Head}
-use Rattle.message.proofs.Lengths.{length-framed}
+use Rattle.message.proofs.Sizing.{length-framed}
 use Rattle.outbox.specs.Written.{certWith, countable, sealsLength, voteBlocks}
 use Rattle.outbox.proofs.Ballots.{weigh-votes, length-votes}
 use Rattle.outbox.proofs.Outcomes.{too-short, all-written}

@@ -11,7 +11,7 @@ use Rattle.base.specs.Numbers.{be2}
 use Rattle.message.specs.Contents.{change}
 use Rattle.message.specs.Encoding.{blocks, encoded, header}
 use Rattle.message.specs.declared.shapes.Head.{Head}
-use Rattle.message.proofs.Lengths.{length-framed}
+use Rattle.message.proofs.Sizing.{length-framed}
 use Rattle.outbox.specs.Written.{sent}
 use Rattle.outbox.proofs.Outcomes.{too-short, all-written}
 use Rattle.outbox.proofs.Pieces.{adds-then}
