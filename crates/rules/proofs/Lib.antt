@@ -1,0 +1,2 @@
+pub mod Lexical
+pub mod Laws

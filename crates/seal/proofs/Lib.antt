@@ -1,0 +1,5 @@
+pub mod Little
+pub mod Absorbing
+pub mod Same
+pub mod Sealings
+pub mod Rows
