@@ -149,7 +149,7 @@ fn with_single(rt: &LibcRuntime) -> Result<(), AnyError> {
     println!(rt, "Single keys, two seals:")?;
     let mut sealer = single(2, 2)?;
     if let Some(seal) = makes(rt, &mut sealer)? {
-        for who in [0u8, 1, 3] {
+        for who in [0u8, 1, 3, 4, 5, 6, 7, 8, 9] {
             looks(rt, who, &single(who, 0)?, &seal)?;
         }
     }
@@ -162,7 +162,7 @@ fn with_rows(rt: &LibcRuntime) -> Result<(), AnyError> {
     println!(rt, "Rows of keys, one seal:")?;
     let mut sealer = row(2, 1)?;
     if let Some(seal) = makes(rt, &mut sealer)? {
-        for who in [0u8, 1, 3] {
+        for who in [0u8, 1, 3, 4, 5, 6, 7, 8, 9] {
             looks(rt, who, &row(who, 0)?, &seal)?;
         }
     }
