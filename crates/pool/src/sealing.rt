@@ -9,15 +9,15 @@ use base::slips::Slip;
 use base::statements::Statement;
 use base::statements::Word;
 use seal::row::KeyRow;
+use seal::row::KeyRowChecker;
+use seal::row::KeyRowSealer;
 use seal::sealers::Checker;
 use seal::sealers::Sealer;
 use seal::single::SingleKey;
-use seal::stating::seal_statement;
-use std::error::AnyError;
-use seal::row::KeyRowChecker;
-use seal::row::KeyRowSealer;
 use seal::single::SingleKeyChecker;
 use seal::single::SingleKeySealer;
+use seal::stating::seal_statement;
+use std::error::AnyError;
 
 // The key that members a and b share; a member's own key is the one it shares with itself.
 fn key(a: u8, b: u8) -> [u8; 16] {

@@ -1,0 +1,13 @@
+pub mod Counting
+pub mod Log
+pub mod Quorums
+pub mod Gains
+pub mod Facts
+pub mod Keeps
+pub mod Book
+pub mod Settled
+pub mod Whole
+pub mod Reading
+pub mod Witness
+pub mod Reached
+pub mod Handy
