@@ -1,0 +1,15 @@
+pub mod Slips
+pub mod Shelf
+pub mod Locks
+pub mod Seals
+pub mod Keeping
+pub mod Settling
+pub mod Stating
+pub mod Timing
+pub mod Turning
+pub mod Judged
+pub mod Certificates
+pub mod Changing
+pub mod Taking
+pub mod Deciding
+pub mod Whole
