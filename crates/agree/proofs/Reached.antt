@@ -6,11 +6,13 @@ use mathlib.Core.List.{List, [], _∷_, _++_}
 use Prim.Native.Nat.{ℕ, _<_}
 use lib.Dec.{eqb}
 use Rattle.std.proofs.shelf.Tests.{cond-both, eqb-true, eqb-false}
-use Rattle.agree.specs.Pool.{Pool, members, Event, Replica}
+use Rattle.agree.specs.Lists.{In}
+use Rattle.agree.specs.Pool.{Pool, members, Event, Event.committed, Replica}
 use Rattle.agree.specs.Moves.{Move, after, logged, Allowed}
-use Rattle.agree.specs.Runs.{Act, played, Lawful}
+use Rattle.agree.specs.Runs.{Act, World, played, Lawful}
 use Rattle.agree.specs.Agreement.{Agreed}
 use Rattle.agree.proofs.Facts.{Facts}
+use Rattle.agree.proofs.Settled.{cert-one}
 use Rattle.agree.proofs.Whole.{good-run, agreed}
 
 module _ {P M : Type 0} (pool : Pool P M) (start : ℕ → Replica P M) where
@@ -49,3 +51,12 @@ module _ {P M : Type 0} (pool : Pool P M) (start : ℕ → Replica P M) where
   reached-facts now log r i =
       subst (λ l. Facts pool i (now i) l) (r .3)
       (subst (λ s. Facts pool i s (played pool start (r .0) .log)) (r .2 i) (good-run pool start (r .0) (r .1) .everyone i))
+
+  -- commits of one height and round are to one page
+  pub reached-commits : (now : ℕ → Replica P M) (log : List (Event P M)) → Reached now log → (i j h r : ℕ) (p q : P) → In (committed i h r p) log → In (committed j h r q) log → p ≡ q
+  reached-commits now log r i j h k p q mine theirs =
+      let w : World P M = played pool start (r .0) in
+      let good = good-run pool start (r .0) (r .1) in
+      let mine′ : In (committed i h k p) (w .log) = subst (λ l. In (committed i h k p) l) (sym (r .3)) mine in
+      let theirs′ : In (committed j h k q) (w .log) = subst (λ l. In (committed j h k q) l) (sym (r .3)) theirs in
+      cert-one pool w (good .everyone) h k p q (good .book .commit-cert i h k p mine′ .0) (good .book .commit-cert j h k q theirs′ .0)

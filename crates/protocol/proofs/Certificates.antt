@@ -54,15 +54,16 @@ voters-rise n low (v ∷ u ∷ vs) h = (omega (arith, h .1 .1 .1 .0), voters-ris
 module _ (a : Assembly) (w : World) (told : Told (w .sealed) (w .events)) where
   -- a quorum's statements
   vouched : (word : Word) (height round : ℕ) (page : Option Slip) → StatementFits (says word height round page) → (place : ℕ) (inside : Bool) (vs : List (Signed (List ℕ)))
-    → allMembers (a .pool) vs ≡ true
-    → All (Sealed-before a (w .sealed)) (voteChecks place inside (says word height round page) vs)
-    → All (λ i. (i < members (a .pool)) × (a .sound i ≡ true → Logged i (w .events) word (says word height round page))) (voters vs)
+      → allMembers (a .pool) vs ≡ true
+      → All (Sealed-before a (w .sealed)) (voteChecks place inside (says word height round page) vs)
+      → All (λ i. (i < members (a .pool)) × (a .sound i ≡ true → Logged i (w .events) word (says word height round page))) (voters vs)
   vouched word height round page fits place inside [] known all = tt
   vouched word height round page fits place inside (v ∷ vs) known all =
       let k = and-parts (ltb (v .signer) (members (a .pool))) (allMembers (a .pool) vs) known in
-      let low : v .signer < members (a .pool) = ltb-true (v .signer) (members (a .pool)) (k .0) in
-      ((low, λ sound. told (v .signer) (says word height round page) fits (all .0 low sound)),
-       vouched word height round page fits (place + 1) inside vs (k .1) (all .1))
+      let low : v .signer < members (a .pool) = ltb-true (v .signer) (members (a .pool)) (k .0) in (
+        (low, λ sound. told (v .signer) (says word height round page) fits (all .0 low sound)),
+        vouched word height round page fits (place + 1) inside vs (k .1) (all .1),
+      )
 
   module _ (n : ℕ) (h : Head) (c : Cert (List ℕ)) (range : LawfulHead h) (lawful : LawfulCert (a .pool) n c) (known : allMembers (a .pool) (c .votes) ≡ true) (place : ℕ) (inside : Bool) where
     many : quorum (a .pool) ≤ length (voters (c .votes))
@@ -81,9 +82,12 @@ module _ (a : Assembly) (w : World) (told : Told (w .sealed) (w .events)) where
 
     -- of a decide
     pub decided : All (Sealed-before a (w .sealed)) (voteChecks place inside (says Cmit (heightIn h) (roundIn h) (Some (c .slip))) (c .votes)) → Decided (asPool a) (w .events) (heightIn h) (roundIn h) (c .slip)
-    decided all =
-        (voters (c .votes), many, distinct,
-          all-weaker (λ i. (i < members (a .pool)) × (a .sound i ≡ true → Logged i (w .events) Cmit (says Cmit (heightIn h) (roundIn h) (Some (c .slip))))) _
+    decided all = (
+      voters (c .votes),
+      many,
+      distinct,
+      all-weaker (λ i. (i < members (a .pool)) × (a .sound i ≡ true → Logged i (w .events) Cmit (says Cmit (heightIn h) (roundIn h) (Some (c .slip))))) _
           (λ i f. (f .0, λ sound. f .1 sound (c .slip) refl))
           (voters (c .votes))
-          (vouched Cmit (heightIn h) (roundIn h) (Some (c .slip)) (fits Cmit) place inside (c .votes) known all))
+          (vouched Cmit (heightIn h) (roundIn h) (Some (c .slip)) (fits Cmit) place inside (c .votes) known all),
+    )

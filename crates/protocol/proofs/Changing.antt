@@ -109,8 +109,8 @@ module _ (a : Assembly) (start : ℕ → Replica Slip Mark) (w : World) (i : ℕ
       cond-both (repeats (roundIn h) page (latestOf v (senderIn h))) (plainly taken v) (recorded (boxOf a i (w .stations i)) taken u) (Lands a start w i here V [] seals)
       (λ old. plain-lands a start w i here V seals taken v refl fair)
       (λ new.
-        let kept : getD (set (v .latest) (senderIn h) (Some l)) i None ≡ latestOf v i = getD-set-other (v .latest) (senderIn h) i (Some l) None (λ e. other h page x y (passed .consistent) new (sym e)) in
-        recorded-lands u
-        (λ t. seen (v .height) (v .round) (isResting (v .stage)) (said (kept t)) (locks-page page (v .candidates) t) (v .last))
-        (fair-latest _ (withCandidates v (shelvedPage page (v .candidates))) (senderIn h) l (head-ranges h range .1) fits (fair-candidates _ v _ (fit-page page (v .candidates) fits (fair .slips)) fair))
-        (highestRound (calledFor (w .stations i .settings) u) (u .latest)) refl)
+      let kept : getD (set (v .latest) (senderIn h) (Some l)) i None ≡ latestOf v i = getD-set-other (v .latest) (senderIn h) i (Some l) None (λ e. other h page x y (passed .consistent) new (sym e)) in
+      recorded-lands u
+      (λ t. seen (v .height) (v .round) (isResting (v .stage)) (said (kept t)) (locks-page page (v .candidates) t) (v .last))
+      (fair-latest _ (withCandidates v (shelvedPage page (v .candidates))) (senderIn h) l (head-ranges h range .1) fits (fair-candidates _ v _ (fit-page page (v .candidates) fits (fair .slips)) fair))
+      (highestRound (calledFor (w .stations i .settings) u) (u .latest)) refl)

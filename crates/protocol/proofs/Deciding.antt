@@ -56,24 +56,25 @@ look-fresh i pool h mark = λ t. seen h 0 true (said (blank (members pool) i t))
 
 module _ (a : Assembly) (start : ℕ → Replica Slip Mark) (w : World) (i : ℕ) (here : Here a start w i) (seals : List (List ℕ)) where
   decide-lands : (h : Head) (c : Cert (List ℕ)) → Passed (boxOf a i (w .stations i)) (record { head = h; content = decide c }) → LawfulHead h → LawfulCert (a .pool) (a .long i) c
-    → Lands a start w i here (All (Sealed-before a (w .sealed)) (checksOf h (decide c))) (entered i (w .stations i .view .height) (c .slip) ∷ []) seals (onDecide (boxOf a i (w .stations i)) c)
+      → Lands a start w i here (All (Sealed-before a (w .sealed)) (checksOf h (decide c))) (entered i (w .stations i .view .height) (c .slip) ∷ []) seals (onDecide (boxOf a i (w .stations i)) c)
   decide-lands h c passed range lawful =
       let v : View = w .stations i .view in
-      let known : allMembers (a .pool) (c .votes) ≡ true = cert-members (a .pool) _ h c (pool-is a start w i here) (and-parts (ltb (senderIn h) _) _ (passed .known) .1) in
-      (tt,
-       λ vouched.
-        let cert : Decided (asPool a) (w .events) (v .height) (roundIn h) (c .slip) =
-        subst (λ x. Decided (asPool a) (w .events) x (roundIn h) (c .slip)) (passed .height-is) (decided a w (here .good .told) (a .long i) h c range lawful known 2 false (vouched .1)) in
-        moves a start w i here (quiet (boxOf a i (w .stations i)) (onDecide (boxOf a i (w .stations i)) c)) (entered i (v .height) (c .slip) ∷ [])
-        (enters (roundIn h) (c .slip)) (lookAt i v) refl
-        (refl, cert, chain-parent (v .last) (c .slip) (passed .chained))
-        (look-fresh i (w .stations i .settings .pool) (v .height + 1) (c .slip .own) ∙ (λ t. seen (add-one (v .height) t) 0 true None [] (c .slip .own)))
-        (fair-fresh (w .stations i .settings .pool) (a .pool) (v .height + 1) (c .slip .own) (pool-is a start w i here) (omega (arith, ltb-true (v .height) lastHeight (passed .goes-on))))
-        tt refl)
+      let known : allMembers (a .pool) (c .votes) ≡ true = cert-members (a .pool) _ h c (pool-is a start w i here) (and-parts (ltb (senderIn h) _) _ (passed .known) .1) in (
+        tt,
+        λ vouched.
+            let cert : Decided (asPool a) (w .events) (v .height) (roundIn h) (c .slip) =
+            subst (λ x. Decided (asPool a) (w .events) x (roundIn h) (c .slip)) (passed .height-is) (decided a w (here .good .told) (a .long i) h c range lawful known 2 false (vouched .1)) in
+            moves a start w i here (quiet (boxOf a i (w .stations i)) (onDecide (boxOf a i (w .stations i)) c)) (entered i (v .height) (c .slip) ∷ [])
+            (enters (roundIn h) (c .slip)) (lookAt i v) refl
+            (refl, cert, chain-parent (v .last) (c .slip) (passed .chained))
+            (look-fresh i (w .stations i .settings .pool) (v .height + 1) (c .slip .own) ∙ (λ t. seen (add-one (v .height) t) 0 true None [] (c .slip .own)))
+            (fair-fresh (w .stations i .settings .pool) (a .pool) (v .height + 1) (c .slip .own) (pool-is a start w i here) (omega (arith, ltb-true (v .height) lastHeight (passed .goes-on))))
+            tt refl,
+      )
 
   -- each kind
   content-lands : (m : List ℕ) (h : Head) (c : Content (List ℕ)) → Passed (boxOf a i (w .stations i)) (record { head = h; content = c }) → Lawful (a .pool) (a .long i) (record { head = h; content = c })
-    → Lands a start w i here (All (Sealed-before a (w .sealed)) (checksOf h c)) (deedsBy i (w .stations i .view) (record { head = h; content = c }) c) seals (planOf (boxOf a i (w .stations i)) m h c)
+      → Lands a start w i here (All (Sealed-before a (w .sealed)) (checksOf h c)) (deedsBy i (w .stations i .view) (record { head = h; content = c }) c) seals (planOf (boxOf a i (w .stations i)) m h c)
   content-lands m h (change page x y) passed f = change-lands a start w i here _ seals h page x y passed (f .head-lawful) (f .content-lawful .0)
   content-lands m h (lock c) passed f = lock-lands a start w i here seals m h c passed (f .head-lawful) (f .content-lawful)
   content-lands m h (select c) passed f = select-lands a start w i here seals _ h c passed (f .head-lawful) (f .content-lawful)

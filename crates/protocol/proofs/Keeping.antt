@@ -87,11 +87,11 @@ module _ (a : Assembly) (start : ℕ → Replica Slip Mark) where
   -- the parts of what is kept, given what is new
   module _ (w : World) (i : ℕ) (good : Good w) (s : Station) (ss : List Statement) (deeds new : List (Event Slip Mark)) where
     keeps : Reached (asPool a) start (λ j. look j (cond (eqb j i) s (w .stations j))) (new ++ w .events)
-      → s .settings .pool ≡ a .pool
-      → Fair (members (a .pool)) (s .view)
-      → All (λ (x : Statement). Borne i (new ++ w .events) (x .word) x) ss
-      → statedIn i ss ++ (deeds ++ w .events) ≡ new ++ w .events
-      → Good (onto w i s ss deeds)
+        → s .settings .pool ≡ a .pool
+        → Fair (members (a .pool)) (s .view)
+        → All (λ (x : Statement). Borne i (new ++ w .events) (x .word) x) ss
+        → statedIn i ss ++ (deeds ++ w .events) ≡ new ++ w .events
+        → Good (onto w i s ss deeds)
     keeps reached pool fair borne log =
         record {
           reached = subst (Reached (asPool a) start (λ j. look j (cond (eqb j i) s (w .stations j)))) (sym log) reached;
@@ -102,41 +102,41 @@ module _ (a : Assembly) (start : ℕ → Replica Slip Mark) where
 
   -- one move
   pub moves-on : (w : World) (i : ℕ) (good : Good w) (s : Station) (ss : List Statement) (deeds : List (Event Slip Mark)) (m : Move Slip Mark) (was : Replica Slip Mark)
-    → i < members (a .pool)
-    → a .sound i ≡ true
-    → look i (w .stations i) ≡ was
-    → Allowed (asPool a) i was (w .events) m
-    → look i s ≡ moved (asPool a) was m
-    → s .settings .pool ≡ a .pool
-    → Fair (members (a .pool)) (s .view)
-    → All (λ (x : Statement). Borne i (logged (asPool a) i was m ++ w .events) (x .word) x) ss
-    → statedIn i ss ++ (deeds ++ w .events) ≡ logged (asPool a) i was m ++ w .events
-    → Good (onto w i s ss deeds)
+      → i < members (a .pool)
+      → a .sound i ≡ true
+      → look i (w .stations i) ≡ was
+      → Allowed (asPool a) i was (w .events) m
+      → look i s ≡ moved (asPool a) was m
+      → s .settings .pool ≡ a .pool
+      → Fair (members (a .pool)) (s .view)
+      → All (λ (x : Statement). Borne i (logged (asPool a) i was m ++ w .events) (x .word) x) ss
+      → statedIn i ss ++ (deeds ++ w .events) ≡ logged (asPool a) i was m ++ w .events
+      → Good (onto w i s ss deeds)
   moves-on w i good s ss deeds m was low sound is allowed next pool fair borne log =
       keeps w i good s ss deeds (logged (asPool a) i was m)
       (subst (λ x. Reached (asPool a) start (λ j. look j (cond (eqb j i) s (w .stations j))) (logged (asPool a) i x m ++ w .events)) is
-        (reached-move (asPool a) start i m (λ j. look j (w .stations j)) (λ j. look j (cond (eqb j i) s (w .stations j))) (w .events) low sound
-          (subst (λ x. Allowed (asPool a) i x (w .events) m) (sym is) allowed)
-          (ap (look i) (cond-true (eqb i i) s (w .stations i) (eq-eqb i i refl)) ∙ next ∙ ap (λ x. moved (asPool a) x m) (sym is))
-          (λ j ne. ap (look j) (cond-false (eqb j i) s (w .stations j) (ne-eqb j i ne)))
-          (good .reached)))
+      (reached-move (asPool a) start i m (λ j. look j (w .stations j)) (λ j. look j (cond (eqb j i) s (w .stations j))) (w .events) low sound
+      (subst (λ x. Allowed (asPool a) i x (w .events) m) (sym is) allowed)
+      (ap (look i) (cond-true (eqb i i) s (w .stations i) (eq-eqb i i refl)) ∙ next ∙ ap (λ x. moved (asPool a) x m) (sym is))
+      (λ j ne. ap (look j) (cond-false (eqb j i) s (w .stations j) (ne-eqb j i ne)))
+      (good .reached)))
       pool fair borne log
 
   -- no move
   pub stays-on : (w : World) (i : ℕ) (good : Good w) (s : Station) (ss : List Statement) (deeds : List (Event Slip Mark))
-    → look i s ≡ look i (w .stations i)
-    → s .settings .pool ≡ a .pool
-    → Fair (members (a .pool)) (s .view)
-    → SilentAll ss
-    → deeds ≡ []
-    → Good (onto w i s ss deeds)
+      → look i s ≡ look i (w .stations i)
+      → s .settings .pool ≡ a .pool
+      → Fair (members (a .pool)) (s .view)
+      → SilentAll ss
+      → deeds ≡ []
+      → Good (onto w i s ss deeds)
   stays-on w i good s ss deeds same pool fair silent none =
       keeps w i good s ss deeds []
       (reached-same (asPool a) start (λ j. look j (w .stations j)) (λ j. look j (cond (eqb j i) s (w .stations j))) (w .events)
-        (λ j.
-          cond-both (eqb j i) s (w .stations j) (λ (x : Station). look j x ≡ look j (w .stations j))
-          (λ e. subst (λ k. look k s ≡ look k (w .stations k)) (sym (eqb-true j i e)) same)
-          (λ e. refl))
-        (good .reached))
+      (λ j.
+      cond-both (eqb j i) s (w .stations j) (λ (x : Station). look j x ≡ look j (w .stations j))
+      (λ e. subst (λ k. look k s ≡ look k (w .stations k)) (sym (eqb-true j i e)) same)
+      (λ e. refl))
+      (good .reached))
       pool fair (silent-all i (w .events) ss silent)
       (λ t. silent-log i ss silent t ++ (none t ++ w .events))

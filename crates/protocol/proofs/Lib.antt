@@ -13,3 +13,6 @@ pub mod Changing
 pub mod Taking
 pub mod Deciding
 pub mod Whole
+pub mod Lasting
+pub mod Tested
+pub mod Witness

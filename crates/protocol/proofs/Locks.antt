@@ -32,6 +32,7 @@ candidate-free rules cs = by (locksOf cs) (topOf (rules .above) cs)
     bare : (o : Option Slip) → Free [] o
     bare None = tt
     bare (Some s) = tt
+
     by : (ls : List (Lock Slip)) (top : Option Slip) → Free ls (byLocks ls top)
     by [] top = bare top
     by (l ∷ []) top = (refl, tt)
@@ -48,10 +49,10 @@ raised-from s r None l h = elim h [ inl e ↦ inl e | inr n ↦ absurd n ]
 raised-from s r (Some k) l h =
     elim h [
       | inl e ↦
-        elim (decLe r k) [
-          | yes le ↦ inr (inl (e ∙ ap (on s) (let m : max k r ≡ k = omega arith in m)))
-          | no gt ↦ inl (e ∙ ap (on s) (let m : max k r ≡ r = omega arith in m))
-        ]
+          elim (decLe r k) [
+            | yes le ↦ inr (inl (e ∙ ap (on s) (let m : max k r ≡ k = omega arith in m)))
+            | no gt ↦ inl (e ∙ ap (on s) (let m : max k r ≡ r = omega arith in m))
+          ]
       | inr n ↦ absurd n
     ]
 
@@ -74,19 +75,19 @@ module _ (s : Slip) (r : ℕ) where
   locked-from (c ∷ cs) l was =
       cond-both (onePage (c .slip) s) (record { slip = c .slip; lock = raised (c .lock) r } ∷ cs) (c ∷ lockedAt s r cs) (λ ds. In l (locksOf ds) → (l ≡ on s r) ⊎ In l (locksOf (c ∷ cs)))
       (λ e h.
-        elim (in-either (lockIn (c .slip) (raised (c .lock) r)) (locksOf cs) l h) [
-          | inl n ↦
+      elim (in-either (lockIn (c .slip) (raised (c .lock) r)) (locksOf cs) l h) [
+        | inl n ↦
             elim (raised-from (c .slip) r (c .lock) l n) [
               | inl is ↦ inl (is ∙ ap (λ x. on x r) (slip-same (c .slip) s e))
               | inr old ↦ inr (in-new (lockIn (c .slip) (c .lock)) (locksOf cs) l old)
             ]
-          | inr o ↦ inr (in-old (lockIn (c .slip) (c .lock)) (locksOf cs) l o)
-        ])
+        | inr o ↦ inr (in-old (lockIn (c .slip) (c .lock)) (locksOf cs) l o)
+      ])
       (λ e h.
-        elim (in-either (lockIn (c .slip) (c .lock)) (locksOf (lockedAt s r cs)) l h) [
-          | inl n ↦ inr (in-new (lockIn (c .slip) (c .lock)) (locksOf cs) l n)
-          | inr o ↦ elim (locked-from cs l o) [ inl is ↦ inl is | inr old ↦ inr (in-old (lockIn (c .slip) (c .lock)) (locksOf cs) l old) ]
-        ])
+      elim (in-either (lockIn (c .slip) (c .lock)) (locksOf (lockedAt s r cs)) l h) [
+        | inl n ↦ inr (in-new (lockIn (c .slip) (c .lock)) (locksOf cs) l n)
+        | inr o ↦ elim (locked-from cs l o) [ inl is ↦ inl is | inr old ↦ inr (in-old (lockIn (c .slip) (c .lock)) (locksOf cs) l old) ]
+      ])
       was
 
   -- a lock of a list that is as high
@@ -104,15 +105,15 @@ module _ (s : Slip) (r : ℕ) where
   locked-over (c ∷ cs) l h =
       cond-both (onePage (c .slip) s) (record { slip = c .slip; lock = raised (c .lock) r } ∷ cs) (c ∷ lockedAt s r cs) (λ ds. Over (l .round) (locksOf ds))
       (λ e.
-        elim (in-either (lockIn (c .slip) (c .lock)) (locksOf cs) l h) [
-          | inl n ↦ over-new (l .round) (lockIn (c .slip) (raised (c .lock) r)) (locksOf cs) (raised-over (c .slip) r (c .lock) l n)
-          | inr o ↦ over-old (l .round) (lockIn (c .slip) (raised (c .lock) r)) (locksOf cs) (l, o, omega arith)
-        ])
+      elim (in-either (lockIn (c .slip) (c .lock)) (locksOf cs) l h) [
+        | inl n ↦ over-new (l .round) (lockIn (c .slip) (raised (c .lock) r)) (locksOf cs) (raised-over (c .slip) r (c .lock) l n)
+        | inr o ↦ over-old (l .round) (lockIn (c .slip) (raised (c .lock) r)) (locksOf cs) (l, o, omega arith)
+      ])
       (λ e.
-        elim (in-either (lockIn (c .slip) (c .lock)) (locksOf cs) l h) [
-          | inl n ↦ over-new (l .round) (lockIn (c .slip) (c .lock)) (locksOf (lockedAt s r cs)) (l, n, omega arith)
-          | inr o ↦ over-old (l .round) (lockIn (c .slip) (c .lock)) (locksOf (lockedAt s r cs)) (locked-over cs l o)
-        ])
+      elim (in-either (lockIn (c .slip) (c .lock)) (locksOf cs) l h) [
+        | inl n ↦ over-new (l .round) (lockIn (c .slip) (c .lock)) (locksOf (lockedAt s r cs)) (l, n, omega arith)
+        | inr o ↦ over-old (l .round) (lockIn (c .slip) (c .lock)) (locksOf (lockedAt s r cs)) (locked-over cs l o)
+      ])
 
   locked-there : (cs : List Candidate) → known s cs ≡ true → Over r (locksOf (lockedAt s r cs))
   locked-there [] e = absurd (both-ways false refl e)
@@ -120,22 +121,22 @@ module _ (s : Slip) (r : ℕ) where
       cond-both (onePage (c .slip) s) (record { slip = c .slip; lock = raised (c .lock) r } ∷ cs) (c ∷ lockedAt s r cs) (λ ds. Over r (locksOf ds))
       (λ hit. over-new r (lockIn (c .slip) (raised (c .lock) r)) (locksOf cs) (raised-there (c .slip) r (c .lock)))
       (λ miss.
-        elim (or-cases (onePage (c .slip) s) (known s cs) e) [
-          | inl hit ↦ absurd (both-ways (onePage (c .slip) s) miss hit)
-          | inr k ↦ over-old r (lockIn (c .slip) (c .lock)) (locksOf (lockedAt s r cs)) (locked-there cs k)
-        ])
+      elim (or-cases (onePage (c .slip) s) (known s cs) e) [
+        | inl hit ↦ absurd (both-ways (onePage (c .slip) s) miss hit)
+        | inr k ↦ over-old r (lockIn (c .slip) (c .lock)) (locksOf (lockedAt s r cs)) (locked-there cs k)
+      ])
 
   -- the new lock and the old ones: none is lost that is higher than all that are left
   pub kept-locked : (cs : List Candidate) → Kept (on s r ∷ locksOf cs) (locksOf (lockedAt s r (shelved s cs)))
   kept-locked cs =
       subst (λ old. Kept (on s r ∷ old) (locksOf (lockedAt s r (shelved s cs)))) (locks-shelved s cs)
       (kept-from (on s r ∷ locksOf (shelved s cs)) (locksOf (lockedAt s r (shelved s cs)))
-        (locked-from (shelved s cs))
-        (λ o h.
-          elim h [
-            | inl e ↦ (let k = locked-there (shelved s cs) (known-shelved s cs) in (k .0, k .1, let m : o .round ≡ r = ap (λ (x : Lock Slip). x .round) e in omega (arith, k .2)))
-            | inr old ↦ locked-over (shelved s cs) o old
-          ]))
+      (locked-from (shelved s cs))
+      (λ o h.
+      elim h [
+        | inl e ↦ (let k = locked-there (shelved s cs) (known-shelved s cs) in (k .0, k .1, let m : o .round ≡ r = ap (λ (x : Lock Slip). x .round) e in omega (arith, k .2)))
+        | inr old ↦ locked-over (shelved s cs) o old
+      ]))
 
   -- a lock above all others, which go
   above-each : (ls : List (Lock Slip)) → aboveAll r ls ≡ true → All (λ (l : Lock Slip). l .round < r) ls
@@ -149,10 +150,10 @@ module _ (s : Slip) (r : ℕ) where
       kept-from (on s r ∷ locksOf cs) (locksOf (lockedAt s r (shelved s (unlocked cs))))
       (λ l h. elim (locked-from (shelved s (unlocked cs)) l h) [ inl e ↦ inl e | inr n ↦ absurd (subst (In l) none n) ])
       (λ o h.
-        elim h [
-          | inl e ↦ (there .0, there .1, let m : o .round ≡ r = ap (λ (x : Lock Slip). x .round) e in omega (arith, there .2))
-          | inr old ↦ (there .0, there .1, omega (arith, there .2, all-in (λ (l : Lock Slip). l .round < r) (locksOf cs) o (above-each (locksOf cs) top) old))
-        ])
+      elim h [
+        | inl e ↦ (there .0, there .1, let m : o .round ≡ r = ap (λ (x : Lock Slip). x .round) e in omega (arith, there .2))
+        | inr old ↦ (there .0, there .1, omega (arith, there .2, all-in (λ (l : Lock Slip). l .round < r) (locksOf cs) o (above-each (locksOf cs) top) old))
+      ])
 
 -- only the highest is kept ------------------------------------------------------------------------------------------
 
@@ -166,11 +167,11 @@ best-topped h l None ls t = (inl refl, (omega arith, subst (All (λ (o : Lock Sl
 best-topped h l (Some k) ls t =
     cond-both (beats h l k) l k (λ x. Topped (Some x) (l ∷ ls))
     (λ e.
-      let le : k .round ≤ l .round = elim (or-cases (ltb (k .round) (l .round)) _ e) [
-        | inl lt ↦ omega (arith, ltb-true (k .round) (l .round) lt)
-        | inr eq ↦ omega (arith, eqb-true (k .round) (l .round) (and-parts (eqb (k .round) (l .round)) (isHeld h (l .page)) eq .0))
-      ] in
-      (inl refl, (omega arith, all-weaker (λ (o : Lock Slip). o .round ≤ k .round) (λ (o : Lock Slip). o .round ≤ l .round) (λ o m. omega arith) ls (t .1))))
+    let le : k .round ≤ l .round = elim (or-cases (ltb (k .round) (l .round)) _ e) [
+      | inl lt ↦ omega (arith, ltb-true (k .round) (l .round) lt)
+      | inr eq ↦ omega (arith, eqb-true (k .round) (l .round) (and-parts (eqb (k .round) (l .round)) (isHeld h (l .page)) eq .0))
+    ] in
+    (inl refl, (omega arith, all-weaker (λ (o : Lock Slip). o .round ≤ k .round) (λ (o : Lock Slip). o .round ≤ l .round) (λ o m. omega arith) ls (t .1))))
     (λ e. (inr (t .0), (ltb-false (k .round) (l .round) (or-parts (ltb (k .round) (l .round)) _ e .0), t .1)))
 
 topped : (h : Option Held) (ls : List (Lock Slip)) → Topped (highestLock h ls) ls
@@ -197,10 +198,10 @@ kept-there l [] h = absurd h
 kept-there l (c ∷ cs) h =
     elim (in-either (lockIn (c .slip) (c .lock)) (locksOf cs) l h) [
       | inl n ↦
-        (let page : c .slip ≡ l .page = lock-page (c .slip) (c .lock) l n in
-        cond-both (onePage (c .slip) (l .page)) (Some (l .round)) None (λ o. In l (lockIn (c .slip) o ++ locksOf (keepOnly (Some l) cs)))
-        (λ e. inl (λ i. on (sym page i) (l .round)))
-        (λ e. absurd (both-ways (onePage (c .slip) (l .page)) e (subst (λ p. onePage (c .slip) p ≡ true) page (slip-itself (c .slip))))))
+          (let page : c .slip ≡ l .page = lock-page (c .slip) (c .lock) l n in
+          cond-both (onePage (c .slip) (l .page)) (Some (l .round)) None (λ o. In l (lockIn (c .slip) o ++ locksOf (keepOnly (Some l) cs)))
+          (λ e. inl (λ i. on (sym page i) (l .round)))
+          (λ e. absurd (both-ways (onePage (c .slip) (l .page)) e (subst (λ p. onePage (c .slip) p ≡ true) page (slip-itself (c .slip))))))
       | inr o ↦ in-old (lockIn (c .slip) (cond (onePage (c .slip) (l .page)) (Some (l .round)) None)) (locksOf (keepOnly (Some l) cs)) l (kept-there l cs o)
     ]
 

@@ -124,11 +124,11 @@ new-told i [] log all j s fits h = absurd h
 new-told i (n ∷ ss) log all j s fits h =
     elim h [
       | inl e ↦
-        (let who : i ≡ j = sym (ap (λ (x : ℕ × List ℕ). x .0) e) in
-        let bytes : statementBytes s ≡ statementBytes n = ap (λ (x : ℕ × List ℕ). x .1) e in
-        let word : n .word ≡ s .word = sym (one-word s n bytes) in
-        subst (λ k. Logged k log (s .word) s) who
-        (alike i log (s .word) s n refl word fits bytes (subst (λ w. Borne i log w n) word (all .0))))
+          (let who : i ≡ j = sym (ap (λ (x : ℕ × List ℕ). x .0) e) in
+          let bytes : statementBytes s ≡ statementBytes n = ap (λ (x : ℕ × List ℕ). x .1) e in
+          let word : n .word ≡ s .word = sym (one-word s n bytes) in
+          subst (λ k. Logged k log (s .word) s) who
+          (alike i log (s .word) s n refl word fits bytes (subst (λ w. Borne i log w n) word (all .0))))
       | inr k ↦ new-told i ss log (all .1) j s fits k
     ]
 

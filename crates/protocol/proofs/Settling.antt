@@ -75,24 +75,24 @@ module _ (a : Assembly) (start : ℕ → Replica Slip Mark) (w : World) (i : ℕ
 
   -- nothing that agreement sees is changed
   pub stays : {X : Type 0} (d : Done X) (deeds : List (Event Slip Mark))
-    → lookAt i (d .view) ≡ lookAt i (w .stations i .view)
-    → Fair (members (a .pool)) (d .view)
-    → SilentAll (d .sealed)
-    → cond (isOk (d .answer)) deeds [] ≡ []
-    → Good a start (landed w i d deeds)
+      → lookAt i (d .view) ≡ lookAt i (w .stations i .view)
+      → Fair (members (a .pool)) (d .view)
+      → SilentAll (d .sealed)
+      → cond (isOk (d .answer)) deeds [] ≡ []
+      → Good a start (landed w i d deeds)
   stays d deeds same fair silent none =
       stays-on a start w i (here .good) (record { live = true; settings = w .stations i .settings; view = d .view; left = d .left }) (d .sealed) (cond (isOk (d .answer)) deeds [])
       (same ∙ sym look-is) pool-is fair silent none
 
   -- one move is made
   pub moves : {X : Type 0} (d : Done X) (deeds : List (Event Slip Mark)) (m : Move Slip Mark) (was : Replica Slip Mark)
-    → lookAt i (w .stations i .view) ≡ was
-    → Allowed (asPool a) i was (w .events) m
-    → lookAt i (d .view) ≡ moved (asPool a) was m
-    → Fair (members (a .pool)) (d .view)
-    → All (λ (x : Statement). Borne i (logged (asPool a) i was m ++ w .events) (x .word) x) (d .sealed)
-    → statedIn i (d .sealed) ++ (cond (isOk (d .answer)) deeds [] ++ w .events) ≡ logged (asPool a) i was m ++ w .events
-    → Good a start (landed w i d deeds)
+      → lookAt i (w .stations i .view) ≡ was
+      → Allowed (asPool a) i was (w .events) m
+      → lookAt i (d .view) ≡ moved (asPool a) was m
+      → Fair (members (a .pool)) (d .view)
+      → All (λ (x : Statement). Borne i (logged (asPool a) i was m ++ w .events) (x .word) x) (d .sealed)
+      → statedIn i (d .sealed) ++ (cond (isOk (d .answer)) deeds [] ++ w .events) ≡ logged (asPool a) i was m ++ w .events
+      → Good a start (landed w i d deeds)
   moves d deeds m was is allowed next fair borne log =
       moves-on a start w i (here .good) (record { live = true; settings = w .stations i .settings; view = d .view; left = d .left }) (d .sealed) (cond (isOk (d .answer)) deeds []) m was
       (here .low) (here .sound) (look-is ∙ is) allowed next pool-is fair borne log
@@ -124,9 +124,9 @@ module _ (a : Assembly) (start : ℕ → Replica Slip Mark) (w : World) (i : ℕ
         (cond (leb (length (d .wants)) (w .stations i .left)) (goes (boxOf a i (w .stations i)) p d seals) (wears (boxOf a i (w .stations i)) d))
         (refusing (boxOf a i (w .stations i)) OutboxShort) Keeps
         (λ fits.
-          cond-both (leb (length (d .wants)) (w .stations i .left)) (goes (boxOf a i (w .stations i)) p d seals) (wears (boxOf a i (w .stations i)) d) Keeps
-          (λ e v. f (v refl))
-          (λ e v. stays {X = X} (wears (boxOf a i (w .stations i)) d) deeds refl fair-is (late (w .stations i .left) (leb-false _ _ e)) refl))
+        cond-both (leb (length (d .wants)) (w .stations i .left)) (goes (boxOf a i (w .stations i)) p d seals) (wears (boxOf a i (w .stations i)) d) Keeps
+        (λ e v. f (v refl))
+        (λ e v. stays {X = X} (wears (boxOf a i (w .stations i)) d) deeds refl fair-is (late (w .stations i .left) (leb-false _ _ e)) refl))
         (λ short. refused-keeps OutboxShort)
 
     pub settles : (judged : Result (Plan X) Refusal) → Passing (Lands V deeds seals) judged → Keeps (settled (boxOf a i (w .stations i)) fill size judged seals)

@@ -84,16 +84,17 @@ module _ (a : Assembly) (start : ℕ → Replica Slip Mark) (w : World) (i : ℕ
       let p : Plan X = stating (boxOf a i (w .stations i)) x u r in
       let set′ : getD (set (u .latest) i (Some l)) i None ≡ Some l = getD-set-same (u .latest) i (Some l) None (omega (arith, fair .long, here .low)) in
       let fits : PageFits page = candidate-fits (a .rules i) (u .candidates) (fair .slips) in
-      let mid : View = moved (withLatest u i l) r Changing in
-      (late-two _ _ tt,
-       λ v.
-        moves a start w i here (goes (boxOf a i (w .stations i)) p (changeDraft i (u .height) r page) seals) [] (states r page) (lookAt i u) is
-        (refl, ahead, candidate-free (a .rules i) (u .candidates))
-        (onward-look (w .stations i .settings) i mid refl ∙ (λ t. seen (u .height) r false (said (set′ t)) (locksOf (u .candidates)) (u .last)))
-        (onward-fair (members (a .pool)) (w .stations i .settings) mid
-          (fair-busy _ (withLatest u i l) r Changing refl late (fair-latest _ u i l late fits fair)))
-        (tt, ((says-fits Cand (u .height) r page (fair .high) late fits, inl refl), tt))
-        refl)
+      let mid : View = moved (withLatest u i l) r Changing in (
+        late-two _ _ tt,
+        λ v.
+            moves a start w i here (goes (boxOf a i (w .stations i)) p (changeDraft i (u .height) r page) seals) [] (states r page) (lookAt i u) is
+            (refl, ahead, candidate-free (a .rules i) (u .candidates))
+            (onward-look (w .stations i .settings) i mid refl ∙ (λ t. seen (u .height) r false (said (set′ t)) (locksOf (u .candidates)) (u .last)))
+            (onward-fair (members (a .pool)) (w .stations i .settings) mid
+            (fair-busy _ (withLatest u i l) r Changing refl late (fair-latest _ u i l late fits fair)))
+            (tt, ((says-fits Cand (u .height) r page (fair .high) late fits, inl refl), tt))
+            refl,
+      )
 
   -- releasing is entered, in a round that is not below the replica's, and only the highest lock is kept
   pub releases-lands : {X : Type 0} (x : X) (u : View) (k : ℕ) (q : Bool) → lookAt i (w .stations i .view) ≡ seen (u .height) k q (said (latestOf u i)) (locksOf (u .candidates)) (u .last) → k ≤ u .round → Fair (members (a .pool)) (moved u (u .round) Releasing) → Lands a start w i here V [] seals (releasing (boxOf a i (w .stations i)) x u)
@@ -101,15 +102,20 @@ module _ (a : Assembly) (start : ℕ → Replica Slip Mark) (w : World) (i : ℕ
     where
       p : Plan X
       p = releasing (boxOf a i (w .stations i)) x u
+
       left : List Candidate
       left = keepOnly (highestLock (u .held) (locksOf (u .candidates))) (u .candidates)
+
       was : Replica Slip Mark
       was = seen (u .height) k q (said (latestOf u i)) (locksOf (u .candidates)) (u .last)
+
       fits : (o : Option (Lock Slip)) → All Fit (keepOnly o (u .candidates))
       fits None = fit-map _ (λ c. refl) (u .candidates) (fair .slips)
       fits (Some l) = fit-map _ (λ c. refl) (u .candidates) (fair .slips)
+
       fair′ : Fair (members (a .pool)) (moved (withCandidates u left) (u .round) Releasing)
       fair′ = record { long = fair .long; slips = fits (highestLock (u .held) (locksOf (u .candidates))); statements = fair .statements; rest = fair .rest; high = fair .high; late = fair .late }
+
       by : (o : Option Held) → Late (releaseOf i u o) × (V → LandsBy a start w i here [] seals p (releaseOf i u o))
       by None =
           (tt, λ v. moves a start w i here (quiet (boxOf a i (w .stations i)) p) [] (passes (u .round) (locksOf left)) was is (refl, le, kept-highest (u .held) (u .candidates)) refl fair′ tt refl)

@@ -66,12 +66,13 @@ module _ (a : Assembly) (start : ℕ → Replica Slip Mark) (w : World) (i : ℕ
   resends (Some l) is =
       let v : View = w .stations i .view in
       let fair : Fair (members (a .pool)) v = fair-is a start w i here in
-      let fits : LatestFits (Some l) = subst LatestFits is (all-getD LatestFits (v .latest) i None (omega (arith, fair .long, here .low)) (fair .statements)) in
-      (late-two _ _ tt,
-       λ x.
-        moves a start w i here (goes (boxOf a i (w .stations i)) (resending (boxOf a i (w .stations i))) (changeDraft i (v .height) (l .round) (l .page)) seals) [] (repeats (l .round) (l .page)) (lookAt i v) refl
-        (refl, ap said is) refl (fair-ticks _ v 0 fair)
-        (tt, ((says-fits Cand (v .height) (l .round) (l .page) (fair .high) (fits .0) (fits .1), inl refl), tt)) refl)
+      let fits : LatestFits (Some l) = subst LatestFits is (all-getD LatestFits (v .latest) i None (omega (arith, fair .long, here .low)) (fair .statements)) in (
+        late-two _ _ tt,
+        λ x.
+            moves a start w i here (goes (boxOf a i (w .stations i)) (resending (boxOf a i (w .stations i))) (changeDraft i (v .height) (l .round) (l .page)) seals) [] (repeats (l .round) (l .page)) (lookAt i v) refl
+            (refl, ap said is) refl (fair-ticks _ v 0 fair)
+            (tt, ((says-fits Cand (v .height) (l .round) (l .page) (fair .high) (fits .0) (fits .1), inl refl), tt)) refl,
+      )
 
   -- a stage's time has come
   timed : (g : Stage) → w .stations i .view .stage ≡ g → Passing Landing (timedOut (boxOf a i (w .stations i)) g)
@@ -98,11 +99,11 @@ module _ (a : Assembly) (start : ℕ → Replica Slip Mark) (w : World) (i : ℕ
       passing Landing (ltb i (members (w .stations i .settings .pool))) _ _ (λ member.
       passing Landing (leb 1 k && leb k 60000) _ _ (λ lawful.
       cond-both (isResting (v .stage)) (Ok (plainly taken v))
-        (cond (leb (timeOf (w .stations i .settings) (v .stage) (v .round)) (v .ticks + k)) (timedOut (boxOf a i (w .stations i)) (v .stage)) (Ok (plainly taken (withTicks v (v .ticks + k)))))
-        (Passing Landing)
-        (λ rests. passes (plain-lands a start w i here V seals taken v refl fair))
-        (λ busy.
-          cond-both (leb (timeOf (w .stations i .settings) (v .stage) (v .round)) (v .ticks + k)) (timedOut (boxOf a i (w .stations i)) (v .stage)) (Ok (plainly taken (withTicks v (v .ticks + k))))
-          (Passing Landing)
-          (λ due. timed (v .stage) refl)
-          (λ early. passes (plain-lands a start w i here V seals taken (withTicks v (v .ticks + k)) refl (fair-ticks _ v (v .ticks + k) fair))))))
+      (cond (leb (timeOf (w .stations i .settings) (v .stage) (v .round)) (v .ticks + k)) (timedOut (boxOf a i (w .stations i)) (v .stage)) (Ok (plainly taken (withTicks v (v .ticks + k)))))
+      (Passing Landing)
+      (λ rests. passes (plain-lands a start w i here V seals taken v refl fair))
+      (λ busy.
+      cond-both (leb (timeOf (w .stations i .settings) (v .stage) (v .round)) (v .ticks + k)) (timedOut (boxOf a i (w .stations i)) (v .stage)) (Ok (plainly taken (withTicks v (v .ticks + k))))
+      (Passing Landing)
+      (λ due. timed (v .stage) refl)
+      (λ early. passes (plain-lands a start w i here V seals taken (withTicks v (v .ticks + k)) refl (fair-ticks _ v (v .ticks + k) fair))))))

@@ -46,13 +46,14 @@ module _ (a : Assembly) (start : ℕ → Replica Slip Mark) (w : World) (i : ℕ
 
   -- a message of the leader is written, and the replica is left as it is
   led : {X : Type 0} (x : X) (kind : Kind) (sort : ℕ) (word : Word) (s : Slip) (votes : List (Signed (List ℕ))) → Silent word
-    → Landing (record { answer = x; next = λ seals. w .stations i .view; draft = Some (certDraft (boxOf a i (w .stations i)) kind sort word s votes) })
-  led x kind sort word s votes silent =
-      (late-one _,
-       λ v.
+      → Landing (record { answer = x; next = λ seals. w .stations i .view; draft = Some (certDraft (boxOf a i (w .stations i)) kind sort word s votes) })
+  led x kind sort word s votes silent = (
+    late-one _,
+    λ v.
         stays a start w i here
         (goes (boxOf a i (w .stations i)) (record { answer = x; next = λ seals. w .stations i .view; draft = Some (certDraft (boxOf a i (w .stations i)) kind sort word s votes) }) (certDraft (boxOf a i (w .stations i)) kind sort word s votes) seals)
-        [] refl (fair-is a start w i here) (silent, tt) refl)
+        [] refl (fair-is a start w i here) (silent, tt) refl,
+  )
 
   pub opening-lands : Passing Landing (judgeOpening (boxOf a i (w .stations i)))
   opening-lands =

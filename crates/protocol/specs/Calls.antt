@@ -62,5 +62,5 @@ judgeTick b k =
     (unless (leb 1 k && leb k 60000) Unlawful
     (cond (isResting (b .view .stage)) (Ok (plainly taken (b .view)))
     (cond (leb (timeOf (b .settings) (b .view .stage) (b .view .round)) (b .view .ticks + k))
-      (timedOut b (b .view .stage))
-      (Ok (plainly taken (withTicks (b .view) (b .view .ticks + k)))))))
+    (timedOut b (b .view .stage))
+    (Ok (plainly taken (withTicks (b .view) (b .view .ticks + k)))))))

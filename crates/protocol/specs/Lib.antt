@@ -6,3 +6,6 @@ pub mod Messages
 pub mod Calls
 pub mod Turns
 pub mod Runs
+pub mod Subject
+pub mod Reckoned
+pub mod Witness

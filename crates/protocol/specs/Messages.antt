@@ -37,8 +37,8 @@ shelvedPage (Some s) cs = shelved s cs
 abbrev pub onChange : Box → Head → Option Slip → List ℕ → List ℕ → Plan Answer
 onChange b h page rchg cand =
     cond (repeats (roundIn h) page (latestOf (b .view) (senderIn h)))
-      (plainly taken (b .view))
-      (recorded b taken (withLatest (withCandidates (b .view) (shelvedPage page (b .view .candidates))) (senderIn h) (record { round = roundIn h; page = page; rchg = rchg; cand = cand })))
+    (plainly taken (b .view))
+    (recorded b taken (withLatest (withCandidates (b .view) (shelvedPage page (b .view .candidates))) (senderIn h) (record { round = roundIn h; page = page; rchg = rchg; cand = cand })))
 
 -- a commit to a slip in a round
 abbrev pub commitDraft : ℕ → ℕ → ℕ → Slip → Draft
@@ -60,7 +60,7 @@ onLock b m h c =
     record {
       answer = taken;
       next = λ seals.
-        moved
+          moved
           (withHeld (withCandidates (b .view) (lockedAt (c .slip) (roundIn h) (shelved (c .slip) (b .view .candidates)))) (holding (b .view) (c .slip) (roundIn h) m))
           (roundIn h) Committing;
       draft = Some (commitDraft (b .sealer .number) (b .view .height) (roundIn h) (c .slip));
@@ -82,11 +82,11 @@ onDecide b c = plainly (entered (b .view .height) (c .slip)) (fresh (b .settings
 abbrev pub onRelease : Box → List ℕ → Locked (List ℕ) → Plan Answer
 onRelease b l inner =
     plainly taken
-      (cond (outranks (b .view) inner)
-        (withHeld
-          (withCandidates (b .view) (lockedAt (inner .cert .slip) (roundIn (inner .head)) (shelved (inner .cert .slip) (unlocked (b .view .candidates)))))
-          (Some (record { slip = inner .cert .slip; round = roundIn (inner .head); bytes = l })))
-        (b .view))
+    (cond (outranks (b .view) inner)
+    (withHeld
+    (withCandidates (b .view) (lockedAt (inner .cert .slip) (roundIn (inner .head)) (shelved (inner .cert .slip) (unlocked (b .view .candidates)))))
+    (Some (record { slip = inner .cert .slip; round = roundIn (inner .head); bytes = l })))
+    (b .view))
 
 abbrev pub planOf : Box → List ℕ → Head → Content (List ℕ) → Plan Answer
 planOf b m h (change page rchg cand) = onChange b h page rchg cand

@@ -89,8 +89,8 @@ module _ {X : Type 0} (box : Box) where
   carried fill size p None seals = quiet p
   carried fill size p (Some d) seals =
       cond (leb (fill + draftSize d (box .sealer .long)) size)
-        (cond (leb (length (d .wants)) (box .sealer .left)) (goes p d seals) (wears d))
-        (refusing OutboxShort)
+      (cond (leb (length (d .wants)) (box .sealer .left)) (goes p d seals) (wears d))
+      (refusing OutboxShort)
 
   -- a call as a whole, with an outbox of that size and fill
   abbrev pub settled : ℕ → ℕ → Result (Plan X) Refusal → List (List ℕ) → Done X

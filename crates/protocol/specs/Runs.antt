@@ -174,7 +174,7 @@ module _ (a : Assembly) where
         stations = λ j. cond (eqb j (act .who)) (stationAfter w act) (w .stations j);
         sealed = map (λ s. (act .who, statementBytes s)) (stepAt w act .sealed) ++ w .sealed;
         events = statedIn (act .who) (stepAt w act .sealed)
-          ++ (cond (stepAt w act .accepted) (deeds a (act .who) (w .stations (act .who)) (act .call)) [] ++ w .events);
+            ++ (cond (stepAt w act .accepted) (deeds a (act .who) (w .stations (act .who)) (act .call)) [] ++ w .events);
       }
 
   -- a statement in a sound member's name was sealed by that member
