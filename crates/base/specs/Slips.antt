@@ -34,3 +34,7 @@ pub record SlipFits (s : Slip) : Type 0 where
   pub own-fits : length (s .own .0) ≡ 32
   pub lots-fits : s .lots < 2 ^ 32
   pub maker-fits : s .maker < 2 ^ 32
+
+-- two slips are one page exactly when their 72 bytes agree
+abbrev pub Bytes-decide-slip : Type 0
+Bytes-decide-slip = (a b : Slip) → SlipFits a → SlipFits b → slipBytes a ≡ slipBytes b → a ≡ b

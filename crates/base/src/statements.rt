@@ -3,7 +3,7 @@ ghost use lib.ListN.{length};
 ghost use mathlib.Core.List.{_++_};
 ghost use mathlib.Core.Path.{_≡_};
 ghost use Rattle.base.specs.Numbers.{be4};
-ghost use Rattle.base.specs.Slips.{pageBytes};
+ghost use Rattle.base.specs.Slips.{pageBytes, Bytes-decide-slip};
 ghost use Rattle.base.specs.Statements.{wordBytes, statementBytes, sealed, Bytes-decide-statement};
 ghost use Rattle.base.specs.Writing.{wrote};
 use crate::counters::Height;
@@ -72,10 +72,11 @@ pub struct StatementBytes {
 const NO_SLIP: [u8; 72] = [0; 72];
 
 impl Statement {
-    // The bytes, which belong to no other statement.
+    // The bytes, which belong to no other statement, as a slip's belong to no other slip.
     pub fn to_bytes(&self) -> StatementBytes
         ensures bytes { λ r. ⌜ sealed r ≡ statementBytes (now (self .entry)) ⌝ }
         ensures law { λ _. ⌜ Bytes-decide-statement ⌝ }
+        ensures slips { λ _. ⌜ Bytes-decide-slip ⌝ }
     {
         let mut bytes = [0u8; 84];
         let len = fill(self, &mut bytes);
