@@ -1,6 +1,6 @@
 -- Certificates: a quorum's seals in a message are a quorum of members whose sound ones have stated, or committed to, the
 -- page.
-use mathlib.Core.Path.{_≡_, refl, sym, ap, subst, _∙_}
+use mathlib.Core.Path.{_≡_, refl}
 use mathlib.Core.Bool.{Bool, true}
 use mathlib.Core.List.{List, [], _∷_, _++_, map}
 use Prim.Native.Nat.{ℕ, _+_, _≤_, _<_}
@@ -9,23 +9,22 @@ use lib.Dec.{leb, ltb}
 use lib.ListN.{length}
 use Rattle.std.specs.shelf.Lists.{All}
 use Rattle.std.specs.declared.option.Option.{Option}
-use Rattle.std.specs.declared.option.Option.the-variants.{Some, None}
+use Rattle.std.specs.declared.option.Option.the-variants.{Some}
 use Rattle.std.proofs.shelf.Elements.{all-weaker}
 use Rattle.std.proofs.shelf.Lists.{length-map}
 use Rattle.std.proofs.shelf.Tests.{and-parts, leb-true, ltb-true}
 use Rattle.agree.specs.Lists.{Distinct}
-use Rattle.agree.specs.Pool.{Several, Certified, Decided}
-use Rattle.agree.specs.Lists.{In}
+use Rattle.agree.specs.Pool.{Certified, Decided}
 use Rattle.agree.proofs.Handy.{Rising, rising-distinct}
 use Rattle.base.specs.Pools.{members, quorum, heightInRange, roundInRange, lastHeight, lastRound}
-use Rattle.base.specs.Statements.{StatementFits, PageFits}
+use Rattle.base.specs.Statements.{StatementFits}
 use Rattle.base.specs.declared.slips.Slip.{Slip}
 use Rattle.base.specs.declared.statements.Word.{Word}
 use Rattle.base.specs.declared.statements.Word.the-variants.{Cand, Cmit}
 use Rattle.message.specs.Contents.{Signed, Cert}
 use Rattle.message.specs.Encoding.{Rising as SealsRise, LawfulHead, LawfulCert}
 use Rattle.message.specs.declared.shapes.Head.{Head}
-use Rattle.protocol.specs.Judging.{Check, heightIn, roundIn, senderIn, allMembers, voteChecks}
+use Rattle.protocol.specs.Judging.{heightIn, roundIn, allMembers, voteChecks}
 use Rattle.protocol.specs.Rounds.{says}
 use Rattle.protocol.specs.Runs.{Assembly, World, Sealed-before, asPool}
 use Rattle.protocol.proofs.Seals.{Logged, Told}

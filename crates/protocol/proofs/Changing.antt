@@ -1,9 +1,9 @@
 -- Taking a change.
-use mathlib.Core.Path.{_≡_, refl, sym, ap, subst, _∙_}
+use mathlib.Core.Path.{_≡_, refl, sym, subst, _∙_}
 use mathlib.Core.Logic.{inl, inr}
-use mathlib.Core.Bool.{Bool, true, false, cond, not, _&&_, _||_}
+use mathlib.Core.Bool.{Bool, true, false, not}
 use mathlib.Core.List.{List, [], _∷_}
-use Prim.Native.Nat.{ℕ, _≤_, _<_, max}
+use Prim.Native.Nat.{ℕ, _≤_}
 use native.Mathlib.Omega.{arith}
 use native.Mathlib.Decide.{decLe}
 use lib.Dec.{eqb, leb, ltb}
@@ -26,11 +26,10 @@ use Rattle.message.specs.Contents.{change}
 use Rattle.message.specs.Encoding.{LawfulHead}
 use Rattle.message.specs.declared.shapes.Head.{Head}
 use Rattle.protocol.specs.Judging.{roundIn, senderIn, latestOf, repeats, otherPage, contradicts}
-use Rattle.protocol.specs.Messages.{Answer, taken, shelvedPage, onChange}
-use Rattle.protocol.specs.Plans.{Plan}
+use Rattle.protocol.specs.Messages.{taken, shelvedPage, onChange}
 use Rattle.protocol.specs.Rounds.{isResting, isChanging, locksOf, isAhead, calledFor, higherRound, highestRound, withCandidates, withLatest, onward, plainly, recordedBy, recorded}
 use Rattle.protocol.specs.Runs.{Assembly, World, boxOf}
-use Rattle.protocol.specs.State.{Candidate, Latest, View, Settings}
+use Rattle.protocol.specs.State.{Candidate, Latest, View}
 use Rattle.protocol.proofs.Certificates.{head-ranges}
 use Rattle.protocol.proofs.Judged.{Passed}
 use Rattle.protocol.proofs.Keeping.{said, seen, lookAt, LatestFits, Fair}

@@ -1,21 +1,21 @@
 -- Taking a decide, and every message.
 use mathlib.Core.Path.{_≡_, refl, sym, ap, subst, _∙_}
-use mathlib.Core.Bool.{Bool, true, false, cond, _&&_}
-use mathlib.Core.List.{List, [], _∷_, _++_}
-use Prim.Native.Nat.{ℕ, zero, suc, _+_, _≤_, _<_}
+use mathlib.Core.Bool.{true, false}
+use mathlib.Core.List.{List, [], _∷_}
+use Prim.Native.Nat.{ℕ, zero, suc, _+_, _≤_}
 use native.Mathlib.Numerals.{add-one}
 use native.Mathlib.Omega.{arith}
 use lib.Dec.{ltb}
-use lib.ListN.{length, getD, replicate}
+use lib.ListN.{getD, replicate}
 use Rattle.std.specs.shelf.Lists.{All}
 use Rattle.std.specs.declared.option.Option.{Option}
 use Rattle.std.specs.declared.option.Option.the-variants.{Some, None}
 use Rattle.std.proofs.shelf.Lists.{length-replicate}
 use Rattle.std.proofs.shelf.Tests.{and-parts, ltb-true}
-use Rattle.agree.specs.Pool.{Event, Event.entered, Replica, Decided}
+use Rattle.agree.specs.Pool.{Event.entered, Replica, Decided}
 use Rattle.agree.specs.Moves.{Move.enters}
 use Rattle.base.specs.Numbers.{Bytes}
-use Rattle.base.specs.Pools.{members, lastHeight, lastRound}
+use Rattle.base.specs.Pools.{members, lastHeight}
 use Rattle.base.specs.declared.pools.Pool.{Pool}
 use Rattle.base.specs.declared.slips.Mark.{Mark}
 use Rattle.base.specs.declared.slips.Slip.{Slip}
@@ -24,9 +24,9 @@ use Rattle.message.specs.Encoding.{LawfulHead, LawfulCert, Lawful}
 use Rattle.message.specs.RoundTrip.{fields}
 use Rattle.message.specs.declared.shapes.Head.{Head}
 use Rattle.message.proofs.Trips.{round-trip}
-use Rattle.protocol.specs.Judging.{heightIn, roundIn, senderIn, allMembers, checksOf}
-use Rattle.protocol.specs.Messages.{Answer, taken, onDecide, planOf, judgedFields, judgeMessage}
-use Rattle.protocol.specs.Plans.{Plan, quiet}
+use Rattle.protocol.specs.Judging.{Check, recognised, roundIn, senderIn, allMembers, checksOf}
+use Rattle.protocol.specs.Messages.{taken, onDecide, planOf, judgedFields, judgeMessage}
+use Rattle.protocol.specs.Plans.{quiet}
 use Rattle.protocol.specs.Runs.{Assembly, World, Sealed-before, Vouched, asPool, boxOf, deedsBy, deedsOf}
 use Rattle.protocol.specs.State.{Latest, View, fresh}
 use Rattle.protocol.proofs.Certificates.{decided}
@@ -36,6 +36,10 @@ use Rattle.protocol.proofs.Keeping.{said, seen, lookAt, LatestFits, Fair}
 use Rattle.protocol.proofs.Settling.{Passing, refuses, passing, Here, pool-is, fair-is, moves, Lands, plain-lands}
 use Rattle.protocol.proofs.Slips.{chain-parent}
 use Rattle.protocol.proofs.Taking.{cert-members, lock-lands, select-lands, release-lands}
+
+all-meet : {X : Type 0} (P Q : X → Type 0) (xs : List X) → All P xs → All (λ x. P x → Q x) xs → All Q xs
+all-meet P Q [] ps fs = tt
+all-meet P Q (x ∷ xs) ps fs = (fs .0 (ps .0), all-meet P Q xs (ps .1) (fs .1))
 
 -- a fresh view has no statement
 blank : (n i : ℕ) → getD {A = Option Latest} (replicate n None) i None ≡ None
@@ -84,14 +88,16 @@ module _ (a : Assembly) (start : ℕ → Replica Slip Mark) (w : World) (i : ℕ
       release-lands a start w i here seals h l inner x passed (f .content-lawful .1 .0) (f .content-lawful .1 .1 .0) (f .content-lawful .1 .1 .1 .0)
 
   -- every message
-  pub message-lands : (m : List ℕ) → Bytes m → Passing (Lands a start w i here (Vouched a (w .sealed) (fields (a .pool) (a .long i) m)) (deedsOf i (w .stations i .view) (fields (w .stations i .settings .pool) (a .long i) m)) seals) (judgeMessage (boxOf a i (w .stations i)) m)
+  pub message-lands : (m : List ℕ) → Bytes m → Passing (Lands a start w i here (Vouched a i (w .sealed) (fields (a .pool) (a .long i) m)) (deedsOf i (w .stations i .view) (fields (w .stations i .settings .pool) (a .long i) m)) seals) (judgeMessage (boxOf a i (w .stations i)) m)
   message-lands m bytes =
       passing _ (ltb i (members (w .stations i .settings .pool))) _ _ (λ member.
-      subst (λ p. Passing (Lands a start w i here (Vouched a (w .sealed) (fields (a .pool) (a .long i) m)) (deedsOf i (w .stations i .view) (fields p (a .long i) m)) seals) (judgedFields (boxOf a i (w .stations i)) m (fields p (a .long i) m)))
+      subst (λ p. Passing (Lands a start w i here (Vouched a i (w .sealed) (fields (a .pool) (a .long i) m)) (deedsOf i (w .stations i .view) (fields p (a .long i) m)) seals) (judgedFields (boxOf a i (w .stations i)) m (fields p (a .long i) m)))
       (sym (pool-is a start w i here)) (by (fields (a .pool) (a .long i) m) refl))
     where
-      by : (o : Option (Sent (List ℕ))) → fields (a .pool) (a .long i) m ≡ o → Passing (Lands a start w i here (Vouched a (w .sealed) o) (deedsOf i (w .stations i .view) o) seals) (judgedFields (boxOf a i (w .stations i)) m o)
+      by : (o : Option (Sent (List ℕ))) → fields (a .pool) (a .long i) m ≡ o → Passing (Lands a start w i here (Vouched a i (w .sealed) o) (deedsOf i (w .stations i .view) o) seals) (judgedFields (boxOf a i (w .stations i)) m o)
       by None is = refuses
       by (Some s) is =
-          judged (boxOf a i (w .stations i)) m s (Lands a start w i here (Vouched a (w .sealed) (Some s)) (deedsOf i (w .stations i .view) (Some s)) seals)
-          (λ passed. content-lands m (s .head) (s .content) passed (round-trip .reads-lawful (a .pool) (a .long i) m s bytes is))
+          judged (boxOf a i (w .stations i)) m s (Lands a start w i here (Vouched a i (w .sealed) (Some s)) (deedsOf i (w .stations i .view) (Some s)) seals)
+          (λ passed.
+          let lands = content-lands m (s .head) (s .content) passed (round-trip .reads-lawful (a .pool) (a .long i) m s bytes is) in
+          (lands .0, λ vouched. lands .1 (all-meet (λ (k : Check). recognised (a .knows i) k ≡ true) (Sealed-before a (w .sealed)) (checksOf (s .head) (s .content)) (passed .sealed-well) vouched)))

@@ -1,6 +1,7 @@
 pub mod Slips
 pub mod Shelf
 pub mod Locks
+pub mod Highest
 pub mod Seals
 pub mod Keeping
 pub mod Settling
@@ -13,6 +14,7 @@ pub mod Changing
 pub mod Taking
 pub mod Deciding
 pub mod Whole
+pub mod Ahead
 pub mod Lasting
 pub mod Tested
 pub mod Witness

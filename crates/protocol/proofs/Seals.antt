@@ -1,13 +1,10 @@
 -- Sealed statements and what they are of: a candidate is a statement in the log, a commit a commitment.
 use mathlib.Core.Path.{_≡_, refl, sym, ap, subst, _∙_}
-use mathlib.Core.Logic.{_⊎_, inl, inr}
+use mathlib.Core.Logic.{inl, inr}
 use mathlib.Core.List.{List, [], _∷_, _++_, map}
-use Prim.Native.Nat.{ℕ, zero, suc, _<_}
-use native.Mathlib.Omega.{arith}
-use lib.ListN.{length, take}
+use Prim.Native.Nat.{ℕ}
 use Rattle.std.specs.shelf.Lists.{All}
-use Rattle.std.specs.declared.option.Option.{Option}
-use Rattle.std.specs.declared.option.Option.the-variants.{Some, None}
+use Rattle.std.specs.declared.option.Option.the-variants.{Some}
 use Rattle.agree.specs.Lists.{In}
 use Rattle.agree.specs.Pool.{Event, Event.stated, Event.committed}
 use Rattle.agree.proofs.Log.{in-old, some-same}
@@ -18,7 +15,6 @@ use Rattle.base.specs.declared.statements.Statement.{Statement}
 use Rattle.base.specs.declared.statements.Word.{Word}
 use Rattle.base.specs.declared.statements.Word.the-variants.{Rchg, Cand, Cmit, Lock, Slct, Dcid, Rlse}
 use Rattle.base.proofs.Distinct.{split, word-one, word-long, statement-one}
-use Rattle.protocol.specs.Rounds.{says}
 use Rattle.protocol.specs.Runs.{statedIn, statedBy}
 use Rattle.protocol.proofs.Shelf.{in-either}
 

@@ -1,8 +1,8 @@
 -- The end of a call: what is to be shown of its plan, so that all is kept.
-use mathlib.Core.Path.{_≡_, refl, sym, ap, subst, _∙_}
-use mathlib.Core.Bool.{Bool, true, false, cond}
+use mathlib.Core.Path.{_≡_, refl, sym, _∙_}
+use mathlib.Core.Bool.{Bool, true, cond}
 use mathlib.Core.List.{List, [], _∷_, _++_}
-use Prim.Native.Nat.{ℕ, zero, suc, _+_, _≤_, _<_}
+use Prim.Native.Nat.{ℕ, zero, suc, _+_, _<_}
 use native.Mathlib.Omega.{arith}
 use lib.Dec.{leb}
 use lib.ListN.{length, take}
@@ -23,7 +23,7 @@ use Rattle.base.specs.declared.slips.Slip.{Slip}
 use Rattle.base.specs.declared.statements.Statement.{Statement}
 use Rattle.protocol.specs.Plans.{Draft, Plan, Done, unless, draftSize, refusing, quiet, goes, wears, carried, settled}
 use Rattle.protocol.specs.Rounds.{plainly}
-use Rattle.protocol.specs.Runs.{Assembly, Station, World, asPool, boxOf, statedIn}
+use Rattle.protocol.specs.Runs.{Assembly, World, asPool, boxOf, statedIn}
 use Rattle.protocol.specs.State.{View}
 use Rattle.protocol.proofs.Keeping.{look, lookAt, Fair, Good, onto, moves-on, stays-on}
 use Rattle.protocol.proofs.Seals.{Borne, Silent, SilentAll}

@@ -1,25 +1,22 @@
 -- Candidates: which slips are among them, and which locks, after each change of them.
 use mathlib.Core.Path.{_≡_, refl, sym, ap, subst, _∙_}
 use mathlib.Core.Logic.{_⊎_, inl, inr}
-use mathlib.Core.Bool.{Bool, true, false, cond, _||_}
+use mathlib.Core.Bool.{Bool, true, false}
 use mathlib.Core.List.{List, [], _∷_, _++_, map}
-use Prim.Native.Nat.{ℕ, _≤_, max}
-use native.Mathlib.Omega.{arith}
-use native.Mathlib.Decide.{decLe}
+use Prim.Native.Nat.{ℕ}
 use Rattle.std.specs.shelf.Lists.{All}
 use Rattle.std.proofs.shelf.Lists.{append-nil, append-assoc}
 use Rattle.std.proofs.shelf.Elements.{all-push, all-map, all-weaker}
-use Rattle.std.proofs.shelf.Tests.{cond-both, or-cases, or-right, or-left}
+use Rattle.std.proofs.shelf.Tests.{cond-both, or-right, or-left}
 use Rattle.std.specs.declared.option.Option.{Option}
 use Rattle.std.specs.declared.option.Option.the-variants.{Some, None}
 use Rattle.agree.specs.Lists.{In}
 use Rattle.agree.specs.Pool.{Lock}
-use Rattle.agree.proofs.Log.{in-old}
 use Rattle.base.specs.Statements.{PageFits}
 use Rattle.base.specs.declared.slips.Slip.{Slip}
 use Rattle.protocol.specs.Rounds.{known, shelved, raised, lockedAt, unlocked, lockIn, locksOf, topOf, betterOf, byLocks, candidateOf}
 use Rattle.protocol.specs.State.{Candidate, Rules, onePage}
-use Rattle.protocol.proofs.Slips.{slip-same, slip-itself}
+use Rattle.protocol.proofs.Slips.{slip-itself}
 
 module _ {X : Type 0} where
   pub in-new : (new old : List X) (x : X) → In x new → In x (new ++ old)

@@ -1,20 +1,19 @@
 -- Stating a round, and entering releasing: the plans that several calls share.
-use mathlib.Core.Path.{_≡_, refl, sym, ap, subst, _∙_}
+use mathlib.Core.Path.{_≡_, refl, sym, _∙_}
 use mathlib.Core.Logic.{inl}
-use mathlib.Core.Bool.{Bool, true, false, cond}
-use mathlib.Core.List.{List, [], _∷_, _++_, map}
-use Prim.Native.Nat.{ℕ, _≤_, _<_, _^_}
+use mathlib.Core.Bool.{Bool, false}
+use mathlib.Core.List.{List, []}
+use Prim.Native.Nat.{ℕ, _≤_}
 use native.Mathlib.Omega.{arith}
-use lib.ListN.{length, getD, set}
+use lib.ListN.{getD, set}
 use Rattle.std.specs.shelf.Lists.{All}
 use Rattle.std.specs.declared.option.Option.{Option}
 use Rattle.std.specs.declared.option.Option.the-variants.{Some, None}
 use Rattle.std.proofs.shelf.Lists.{length-set, getD-set-same}
 use Rattle.std.proofs.shelf.Elements.{all-set}
 use Rattle.std.proofs.shelf.Tests.{cond-both, both-ways}
-use Rattle.agree.specs.Pool.{Event, Replica, Lock}
-use Rattle.agree.specs.Moves.{Move.states, Move.passes, Ahead, after as moving}
-use Rattle.agree.proofs.Handy.{kept-all}
+use Rattle.agree.specs.Pool.{Replica, Lock}
+use Rattle.agree.specs.Moves.{Move.states, Move.passes, Ahead}
 use Rattle.base.specs.Pools.{members, lastHeight, lastRound}
 use Rattle.base.specs.Statements.{StatementFits, PageFits}
 use Rattle.base.specs.declared.slips.Mark.{Mark}
@@ -23,14 +22,15 @@ use Rattle.base.specs.declared.stages.Stage.{Stage}
 use Rattle.base.specs.declared.stages.Stage.the-variants.{Changing, Locking, Releasing}
 use Rattle.base.specs.declared.statements.Word.{Word}
 use Rattle.base.specs.declared.statements.Word.the-variants.{Cand}
-use Rattle.protocol.specs.Plans.{Draft, Plan, quiet, goes}
-use Rattle.protocol.specs.Rounds.{isResting, locksOf, candidateOf, quorate, says, sealAt, moved, withCandidates, withLatest, withTicks, changeDraft, onward, stated, stating, highestLock, keepOnly, releaseDraft, releaseOf, releasing}
-use Rattle.protocol.specs.Runs.{Assembly, World, asPool, boxOf}
+use Rattle.protocol.specs.Plans.{Plan, quiet, goes}
+use Rattle.protocol.specs.Rounds.{isResting, locksOf, candidateOf, quorate, says, sealAt, moved, withCandidates, withLatest, withTicks, changeDraft, onward, stating, highestLock, keepOnly, releaseDraft, releaseOf, releasing}
+use Rattle.protocol.specs.Runs.{Assembly, World, boxOf}
 use Rattle.protocol.specs.Judging.{latestOf}
 use Rattle.protocol.specs.State.{Settings, Candidate, Latest, Held, View}
 use Rattle.protocol.proofs.Keeping.{said, seen, lookAt, LatestFits, Fair}
-use Rattle.protocol.proofs.Locks.{candidate-free, kept-highest}
-use Rattle.protocol.proofs.Settling.{Late, late-one, late-two, Here, stays, moves, LandsBy, Lands}
+use Rattle.protocol.proofs.Highest.{kept-highest}
+use Rattle.protocol.proofs.Locks.{candidate-free}
+use Rattle.protocol.proofs.Settling.{Late, late-one, late-two, Here, moves, LandsBy, Lands}
 use Rattle.protocol.proofs.Shelf.{Fit, candidate-fits, fit-map}
 
 -- heights and rounds in range, and a page that fits, make a statement of the program

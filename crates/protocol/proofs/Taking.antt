@@ -1,16 +1,15 @@
 -- Taking a lock, a select and a release.
 use mathlib.Core.Path.{_≡_, refl, sym, ap, subst, _∙_}
-use mathlib.Core.Logic.{inl, inr}
-use mathlib.Core.Bool.{Bool, true, false, cond, _&&_}
-use mathlib.Core.List.{List, [], _∷_, _++_}
-use Prim.Native.Nat.{ℕ, _≤_, _<_}
-use native.Mathlib.Omega.{arith}
-use lib.Dec.{leb, ltb}
+use mathlib.Core.Logic.{inl}
+use mathlib.Core.Bool.{Bool, true, false, cond}
+use mathlib.Core.List.{List, [], _∷_}
+use Prim.Native.Nat.{ℕ, _≤_}
+use lib.Dec.{ltb}
 use Rattle.std.specs.shelf.Lists.{All}
 use Rattle.std.specs.declared.option.Option.{Option}
-use Rattle.std.specs.declared.option.Option.the-variants.{Some, None}
+use Rattle.std.specs.declared.option.Option.the-variants.{Some}
 use Rattle.std.proofs.shelf.Tests.{and-parts, leb-true}
-use Rattle.agree.specs.Pool.{Event, Event.took, Event.committed, Replica, Certified}
+use Rattle.agree.specs.Pool.{Event.took, Event.committed, Replica, Certified}
 use Rattle.agree.specs.Moves.{Move.locks, Move.releases}
 use Rattle.agree.proofs.Log.{some-same}
 use Rattle.base.specs.Pools.{members, lastRound}
@@ -19,13 +18,13 @@ use Rattle.base.specs.declared.slips.Mark.{Mark}
 use Rattle.base.specs.declared.slips.Slip.{Slip}
 use Rattle.base.specs.declared.stages.Stage.the-variants.{Committing, Releasing}
 use Rattle.base.specs.declared.statements.Word.the-variants.{Cmit}
-use Rattle.message.specs.Contents.{Signed, Cert, Locked, lock, select, release}
+use Rattle.message.specs.Contents.{Cert, Locked, lock, select, release}
 use Rattle.message.specs.Encoding.{LawfulHead, LawfulCert}
 use Rattle.message.specs.declared.shapes.Head.{Head}
-use Rattle.protocol.specs.Judging.{heightIn, roundIn, senderIn, allMembers, fromLeader, certFamiliar, checksOf, lockChecks, outranks, latestOf}
-use Rattle.protocol.specs.Messages.{Answer, taken, commitDraft, holding, onLock, inRoundOf, onSelect, onRelease}
-use Rattle.protocol.specs.Plans.{Plan, quiet, goes}
-use Rattle.protocol.specs.Rounds.{isResting, locksOf, shelved, lockedAt, unlocked, moved, withCandidates, withHeld, plainly}
+use Rattle.protocol.specs.Judging.{heightIn, roundIn, senderIn, allMembers, fromLeader, certFamiliar, checksOf, outranks, latestOf}
+use Rattle.protocol.specs.Messages.{taken, commitDraft, holding, onLock, inRoundOf, onSelect, onRelease}
+use Rattle.protocol.specs.Plans.{quiet, goes}
+use Rattle.protocol.specs.Rounds.{isResting, locksOf, shelved, lockedAt, unlocked, withCandidates, withHeld, plainly}
 use Rattle.protocol.specs.Runs.{Assembly, World, Sealed-before, asPool, boxOf}
 use Rattle.protocol.specs.State.{Held, View}
 use Rattle.protocol.proofs.Certificates.{head-ranges, all-front, certified}

@@ -16,7 +16,8 @@ use Rattle.base.specs.declared.pools.Pool.the-variants.{Four, Seven, Ten}
 use Rattle.base.specs.declared.slips.Slip.{Slip}
 use Rattle.message.specs.Contents.{Sent}
 use Rattle.message.specs.RoundTrip.{fields}
-use Rattle.protocol.specs.Judging.{Check, checksOf}
+use Rattle.std.proofs.shelf.Elements.{all-weaker}
+use Rattle.protocol.specs.Judging.{Check, checksOf, recognised}
 use Rattle.protocol.specs.Runs.{Assembly, Call, opens, offers, begins, ticks, takes, turns, forwards, counts, closes, Act, Station, World, played, Sealed-before, Vouched, Fitting, Lawful-run}
 use Rattle.protocol.specs.State.{settingsLawful}
 use Rattle.std.proofs.shelf.Equals.{sameBytes-decides}
@@ -104,9 +105,11 @@ module _ (a : Assembly) where
   vouched log None = true
   vouched log (Some s) = all (vouchedFor log) (checksOf (s .head) (s .content))
 
-  vouched-hold : (log : List (ℕ × List ℕ)) (s : Option (Sent (List ℕ))) → vouched log s ≡ true → Vouched a log s
-  vouched-hold log None e = tt
-  vouched-hold log (Some s) e = all-hold (Sealed-before a log) (vouchedFor log) (vouched-for log) (checksOf (s .head) (s .content)) e
+  vouched-hold : (i : ℕ) (log : List (ℕ × List ℕ)) (s : Option (Sent (List ℕ))) → vouched log s ≡ true → Vouched a i log s
+  vouched-hold i log None e = tt
+  vouched-hold i log (Some s) e =
+      all-weaker (Sealed-before a log) (λ (k : Check). recognised (a .knows i) k ≡ true → Sealed-before a log k) (λ k h r. h) (checksOf (s .head) (s .content))
+      (all-hold (Sealed-before a log) (vouchedFor log) (vouched-for log) (checksOf (s .head) (s .content)) e)
 
   -- what is asked of a call
   abbrev fitting : World → Act → Call → Bool
@@ -133,13 +136,13 @@ module _ (a : Assembly) where
   fitting-hold w act (takes m) e =
       let o = and-parts (w .stations (act .who) .live) _ e in
       let h = and-parts (bytes m) (vouched (w .sealed) (fields (a .pool) (a .long (act .who)) m)) (o .1) in
-      (o .0, (bytes-hold m (h .0), λ accepted. vouched-hold (w .sealed) (fields (a .pool) (a .long (act .who)) m) (h .1)))
+      (o .0, (bytes-hold m (h .0), λ accepted. vouched-hold (act .who) (w .sealed) (fields (a .pool) (a .long (act .who)) m) (h .1)))
   fitting-hold w act turns e = e
   fitting-hold w act (forwards t rs) e = e
   fitting-hold w act (counts t rs m) e =
       let o = and-parts (w .stations (act .who) .live) _ e in
       let h = and-parts (bytes m) (vouched (w .sealed) (fields (a .pool) (a .long (act .who)) m)) (o .1) in
-      (o .0, (bytes-hold m (h .0), λ accepted. vouched-hold (w .sealed) (fields (a .pool) (a .long (act .who)) m) (h .1)))
+      (o .0, (bytes-hold m (h .0), λ accepted. vouched-hold (act .who) (w .sealed) (fields (a .pool) (a .long (act .who)) m) (h .1)))
   fitting-hold w act (closes t rs) e = e
 
   module _ (start : ℕ → Station) where

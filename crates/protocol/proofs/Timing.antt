@@ -1,9 +1,9 @@
 -- Offer, begin and tick.
-use mathlib.Core.Path.{_≡_, refl, sym, ap, subst, _∙_}
+use mathlib.Core.Path.{_≡_, refl, sym, ap, subst}
 use mathlib.Core.Logic.{inl, inr}
-use mathlib.Core.Bool.{Bool, true, false, cond, _&&_}
-use mathlib.Core.List.{List, [], _∷_, _++_}
-use Prim.Native.Nat.{ℕ, _+_, _≤_, _<_}
+use mathlib.Core.Bool.{cond, _&&_}
+use mathlib.Core.List.{List, []}
+use Prim.Native.Nat.{ℕ, _+_}
 use native.Mathlib.Omega.{arith}
 use lib.Dec.{leb, ltb}
 use Rattle.std.specs.declared.option.Option.{Option}
@@ -24,11 +24,11 @@ use Rattle.protocol.specs.Calls.{judgeOffer, judgeBegin, judgeTick, timedOut, 
 use Rattle.protocol.specs.Judging.{onChain, latestOf}
 use Rattle.protocol.specs.Messages.{Answer, taken}
 use Rattle.protocol.specs.Plans.{Plan, quiet, goes}
-use Rattle.protocol.specs.Rounds.{isResting, hasPlace, shelved, locksOf, changeDraft, moved, withCandidates, withTicks, plainly, stating}
+use Rattle.protocol.specs.Rounds.{isResting, hasPlace, shelved, locksOf, changeDraft, moved, withCandidates, withTicks, plainly}
 use Rattle.protocol.specs.Runs.{Assembly, World, boxOf}
 use Rattle.protocol.specs.State.{Latest, View}
 use Rattle.protocol.proofs.Keeping.{said, seen, lookAt, LatestFits, Fair}
-use Rattle.protocol.proofs.Settling.{Passing, passes, refuses, passing, Late, late-two, Here, fair-is, moves, stays, LandsBy, Lands, plain-lands}
+use Rattle.protocol.proofs.Settling.{Passing, passes, passing, Late, late-two, Here, fair-is, moves, stays, LandsBy, Lands, plain-lands}
 use Rattle.protocol.proofs.Shelf.{locks-shelved, fit-shelved}
 use Rattle.protocol.proofs.Slips.{chain-not-zero}
 use Rattle.protocol.proofs.Stating.{says-fits, fair-candidates, fair-ticks, fair-busy, states-lands, releases-lands}

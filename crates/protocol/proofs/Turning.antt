@@ -1,10 +1,10 @@
 -- The leader's turn: it changes nothing that agreement sees, and seals neither candidates nor commits.
 use mathlib.Core.Path.{_≡_, refl}
-use mathlib.Core.Bool.{Bool, true, _&&_, not}
-use mathlib.Core.List.{List, [], _∷_}
-use Prim.Native.Nat.{ℕ, _<_}
+use mathlib.Core.Bool.{_&&_, not}
+use mathlib.Core.List.{List, []}
+use Prim.Native.Nat.{ℕ}
 use lib.Dec.{eqb, leb, ltb}
-use lib.ListN.{length, take}
+use lib.ListN.{take}
 use Rattle.std.specs.declared.option.Option.{Option}
 use Rattle.std.specs.declared.option.Option.the-variants.{Some, None}
 use Rattle.std.specs.declared.result.Result.{Result}
@@ -18,7 +18,7 @@ use Rattle.base.specs.declared.stages.Kind.the-variants.{Lock, Select, Decide}
 use Rattle.base.specs.declared.statements.Word.{Word}
 use Rattle.base.specs.declared.statements.Word.the-variants.{Slct, Dcid}
 use Rattle.base.specs.declared.statements.Word.the-variants as words
-use Rattle.message.specs.Contents.{Signed, Content, commit, Sent}
+use Rattle.message.specs.Contents.{Signed, commit, Sent}
 use Rattle.message.specs.RoundTrip.{fields}
 use Rattle.message.specs.declared.shapes.Head.{Head}
 use Rattle.protocol.specs.Judging.{heightIn, roundIn, senderIn, familiar, checksOf, badSeal, onChain}
@@ -27,7 +27,7 @@ use Rattle.protocol.specs.Plans.{Plan, goes}
 use Rattle.protocol.specs.Rounds.{isLocking, topOf, ofRound, withTurned}
 use Rattle.protocol.specs.Runs.{Assembly, World, boxOf}
 use Rattle.protocol.specs.State.{View, Box, onePage, tally}
-use Rattle.protocol.specs.Turns.{Gathering, Counting, Committed, Records, Forwarded, leads, judgeOpening, stillIn, enough, commitsTo, namesIn, candOf, rchgOf, commitOf, lowest, certDraft, agreedOf, forwardLock, forwardSelect, selectDue, forwardTop, forwardBy, judgeForward, commitIn, noted, judgedCommit, judgedTurn, judgeCommit, judgeClosing}
+use Rattle.protocol.specs.Turns.{Gathering, Counting, Committed, Records, leads, judgeOpening, stillIn, enough, commitsTo, namesIn, candOf, rchgOf, commitOf, lowest, certDraft, agreedOf, forwardLock, forwardSelect, selectDue, forwardTop, forwardBy, judgeForward, commitIn, noted, judgedCommit, judgedTurn, judgeCommit, judgeClosing}
 use Rattle.protocol.proofs.Keeping.{Fair}
 use Rattle.protocol.proofs.Seals.{Silent}
 use Rattle.protocol.proofs.Settling.{Passing, passes, refuses, passing, late-one, Here, fair-is, stays, Lands, plain-lands}
@@ -36,8 +36,8 @@ abbrev gathered : View → Gathering
 gathered v = record { height = v .height; round = v .round }
 
 -- past the seals
-pub passing-seals : {P : Type 0} (Q : P → Type 0) (bad : Option Refusal) (rest : Result P Refusal) → Passing Q rest → Passing Q (unlessBad bad rest)
-passing-seals Q None rest f = f
+pub passing-seals : {P : Type 0} (Q : P → Type 0) (bad : Option Refusal) (rest : Result P Refusal) → (bad ≡ None → Passing Q rest) → Passing Q (unlessBad bad rest)
+passing-seals Q None rest f = f refl
 passing-seals Q (Some why) rest f = refuses
 
 module _ (a : Assembly) (start : ℕ → Replica Slip Mark) (w : World) (i : ℕ) (here : Here a start w i) (V : Type 0) (seals : List (List ℕ)) where
@@ -93,7 +93,7 @@ module _ (a : Assembly) (start : ℕ → Replica Slip Mark) (w : World) (i : ℕ
   commit-by turn records h (Some c) =
       let v : View = w .stations i .view in
       passing-seals Landing (badSeal (a .knows i) (checksOf h (commit (c .page) (c .seal)))) _
-      (passing Landing (onChain (v .last) (c .page)) _ _ (λ chain.
+      (λ good. passing Landing (onChain (v .last) (c .page)) _ _ (λ chain.
       passing Landing (a .rules i .admits (v .height) (c .page)) _ _ (λ admitted.
       passing Landing (onePage (c .page) (turn .page)) _ _ (λ same.
       passes (plain-lands a start w i here V seals (noted (turn .page) (senderIn h) c records) v refl (fair-is a start w i here))))))

@@ -1,12 +1,11 @@
 -- Every call of every run keeps all, and so agreement holds.
-use mathlib.Core.Path.{_≡_, refl, sym, ap, subst, _∙_}
-use mathlib.Core.Bool.{Bool, true, false, cond, _&&_}
-use mathlib.Core.List.{List, [], _∷_, _++_}
+use mathlib.Core.Path.{_≡_, refl, ap, _∙_}
+use mathlib.Core.Bool.{true, cond}
+use mathlib.Core.List.{List, [], _∷_}
 use Prim.Native.Nat.{ℕ, _≤_, _<_}
 use lib.Dec.{leb}
 use Rattle.std.proofs.shelf.Tests.{and-parts, leb-true, both-ways}
-use Rattle.agree.specs.Agreement.{Agreed}
-use Rattle.agree.specs.Pool.{Event, Event.opened, Replica}
+use Rattle.agree.specs.Pool.{Event.opened, Replica}
 use Rattle.agree.specs.Moves.{Move.starts}
 use Rattle.agree.proofs.Reached.{reached-start, reached-agreed}
 use Rattle.base.specs.Pools.{members, heightInRange, lastHeight}
@@ -16,7 +15,7 @@ use Rattle.message.specs.RoundTrip.{fields}
 use Rattle.protocol.specs.Calls.{judgeOffer, judgeBegin, judgeTick}
 use Rattle.protocol.specs.Messages.{Answer, judgeMessage}
 use Rattle.protocol.specs.Runs.{Assembly, Call, opens, offers, begins, ticks, takes, turns, forwards, counts, closes, Act, Station, World, Step, boxOf, stepBy, settingsBy, deeds, after, Vouched, Fitting, played, Lawful-run, asPool, Agreement-of-replicas}
-use Rattle.protocol.specs.State.{Settings, Box, settingsLawful, firstView, timely}
+use Rattle.protocol.specs.State.{Settings, settingsLawful, firstView}
 use Rattle.protocol.specs.Turns.{Gathering, Records, Forwarded, judgeOpening, judgeForward, judgeCommit, judgeClosing}
 use Rattle.protocol.proofs.Deciding.{fair-fresh, look-fresh, message-lands}
 use Rattle.protocol.proofs.Keeping.{look, Good, onto, moves-on}
@@ -57,7 +56,7 @@ module _ (a : Assembly) (start : ℕ → Replica Slip Mark) (w : World) (act : A
       settles a start w (act .who) (at fit) Answer (Unit {0}) [] (act .fill) (act .size) (act .seals) (judgeTick (boxOf a (act .who) (w .stations (act .who))) k)
       (tick-lands a start w (act .who) (at fit) (Unit {0}) (act .seals) k) (λ e. tt)
   call-keeps (takes m) is fit =
-      settles a start w (act .who) (at (fit .0)) Answer (Vouched a (w .sealed) (fields (a .pool) (a .long (act .who)) m)) (deeds a (act .who) (w .stations (act .who)) (takes m)) (act .fill) (act .size) (act .seals)
+      settles a start w (act .who) (at (fit .0)) Answer (Vouched a (act .who) (w .sealed) (fields (a .pool) (a .long (act .who)) m)) (deeds a (act .who) (w .stations (act .who)) (takes m)) (act .fill) (act .size) (act .seals)
       (judgeMessage (boxOf a (act .who) (w .stations (act .who))) m)
       (message-lands a start w (act .who) (at (fit .0)) (act .seals) m (fit .1 .0))
       (λ e. fit .1 .1 (ap (λ c. stepBy (boxOf a (act .who) (w .stations (act .who))) act c .accepted) is ∙ e))

@@ -21,7 +21,7 @@ use Rattle.base.specs.declared.statements.Word.the-variants.{Rchg, Cand, Cmit, 
 use Rattle.message.specs.Contents.{Content, change, lock, select, commit, decide, release, Sent}
 use Rattle.message.specs.RoundTrip.{fields}
 use Rattle.protocol.specs.Calls.{judgeOffer, judgeBegin, judgeTick}
-use Rattle.protocol.specs.Judging.{Check, checksOf, heightIn, roundIn, outranks}
+use Rattle.protocol.specs.Judging.{Check, checksOf, recognised, heightIn, roundIn, outranks}
 use Rattle.protocol.specs.Messages.{judgeMessage}
 use Rattle.protocol.specs.Plans.{Done, settled}
 use Rattle.protocol.specs.State.{Settings, View, Rules, Box, settingsLawful, firstView}
@@ -181,14 +181,15 @@ module _ (a : Assembly) where
   abbrev pub Sealed-before : List (ℕ × List ℕ) → Check → Type 0
   Sealed-before log k = (k .signer < members (a .pool)) → (a .sound (k .signer) ≡ true) → In (k .signer, statementBytes (k .statement)) log
 
-  abbrev pub Vouched : List (ℕ × List ℕ) → Option (Sent (List ℕ)) → Type 0
-  Vouched log None = Unit {0}
-  Vouched log (Some s) = All (Sealed-before log) (checksOf (s .head) (s .content))
+  abbrev pub Vouched : ℕ → List (ℕ × List ℕ) → Option (Sent (List ℕ)) → Type 0
+  Vouched i log None = Unit {0}
+  Vouched i log (Some s) = All (λ (k : Check). recognised (a .knows i) k ≡ true → Sealed-before log k) (checksOf (s .head) (s .content))
 
   -- the premise on seals, at an accepted message: every statement in it, the lock inside a release included, in a
-  -- sound member's name, was sealed by that member before
+  -- sound member's name and under a seal that the checker of the member called recognises, was sealed by that member
+  -- before
   abbrev pub Honest : World → Act → List ℕ → Type 0
-  Honest w act m = stepAt w act .accepted ≡ true → Vouched (w .sealed) (fields (a .pool) (a .long (act .who)) m)
+  Honest w act m = stepAt w act .accepted ≡ true → Vouched (act .who) (w .sealed) (fields (a .pool) (a .long (act .who)) m)
 
   -- what is asked of a call: a replica is opened once, with lawful settings of the pool's size, and before any other call;
   -- slips and messages are values that the program can have

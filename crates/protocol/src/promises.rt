@@ -1,6 +1,6 @@
 // The theorems on the definitions of the calls. Each function carries one.
 ghost use Rattle.protocol.specs.Runs.{Agreement-of-replicas};
-ghost use Rattle.protocol.specs.Subject.{States-once, Commits-once, Refused-unchanged};
+ghost use Rattle.protocol.specs.Subject.{States-once, Commits-once, Never-back, Refused-unchanged};
 
 // Over every run of every pool with at most t liars among 3t + 1, sound replicas never enter different pages.
 pub fn agreement_of_replicas()
@@ -20,4 +20,9 @@ pub fn commits_once()
 // A refused call, whatever it would answer, changes nothing but the seals that it spent.
 pub fn refused_unchanged<X>()
     ensures { λ _. ⌜ Refused-unchanged X ⌝ }
+{}
+
+// Height and round of a replica never go back.
+pub fn never_back()
+    ensures { λ _. ⌜ Never-back ⌝ }
 {}
