@@ -1,16 +1,12 @@
 -- Bytes that agree come from one number, one slip, one page, one statement.
-use Rattle.std.proofs.Common.{◌≡◌, ℕ, ◌+◌, ◌*◌, ◌/◌, ◌%◌, ◌^◌, ◌<◌, Bool, true, false, cond, eqb, List, [], ◌∷◌, ◌++◌, length, get_or, take, drop, replicate, Some, None, Option, sym, refl, ap, ◌∙◌, arith, rules}
+use Rattle.std.proofs.Common.{◌≡◌, ℕ, ◌/◌, ◌%◌, ◌^◌, ◌<◌, true, false, cond, eqb, List, ◌++◌, length, get_or, take, drop, replicate, Some, None, Option, sym, refl, ap, ◌∙◌, arith}
 use Rattle.std.proofs.lemmas.List.{take_at, drop_at, length-append}
 use Rattle.base.specs.Numbers.{be4, all_zero}
 use Rattle.base.specs.Slips.{slip_bytes, page_bytes, SlipFits}
-use Rattle.base.specs.Statements.{word_bytes, named, named_bytes, statement_bytes, PageFits, StatementFits, Same, BytesDecideStatement}
+use Rattle.base.specs.Statements.{word_bytes, named, named_bytes, PageFits, BytesDecideStatement}
 use Rattle.base.specs.declared.slips.Slip.{Slip}
-use Rattle.base.specs.declared.slips.Mark.{Mark}
-use Rattle.base.specs.declared.counters.Height.{Height}
-use Rattle.base.specs.declared.counters.Round.{Round}
 use Rattle.base.specs.declared.statements.Word.{Word}
 use Rattle.base.specs.declared.statements.Word.TheVariants.{Rchg, Cand, Cmit, Lock, Slct, Dcid, Rlse}
-use Rattle.base.specs.declared.statements.Statement.{Statement}
 
 -- fronts of one length are one, and so are the rests
 pub split : {X : Type 0} (a b x y : List X) → length a ≡ length b → a ++ x ≡ b ++ y → (a ≡ b) × (x ≡ y)

@@ -1,5 +1,5 @@
 -- The test for one page tells whether two slips are one.
-use Rattle.std.proofs.Common.{◌≡◌, ℕ, true, eqb, Decides, refl, ap, subst}
+use Rattle.std.proofs.Common.{◌≡◌, true, eqb, Decides, refl, subst}
 use Rattle.std.specs.Str.{bytes_eq}
 use Rattle.std.proofs.lemmas.Slice.Eq.{bytes_eq-Decides}
 use Rattle.std.proofs.lemmas.Bool.{and_parts, and_from, eqb-true, eq-eqb}

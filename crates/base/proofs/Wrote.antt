@@ -1,7 +1,7 @@
 -- Laws of writing over a part of a buffer.
 use Rattle.std.proofs.Common.{◌≡◌, ℕ, ◌+◌, ◌≤◌, List, ◌++◌, length, take, drop, sym, refl, ap, ◌∙◌, add_assoc, arith}
 use borrow.Rule.Slice.PartMut.{put_mid}
-use Rattle.std.proofs.lemmas.List.{length-append, length-take-le, length-drop, append_assoc, take_at, drop_at, drop-drop, take-take, take-append-le, drop-append-le}
+use Rattle.std.proofs.lemmas.List.{length-append, length-take-le, length-drop, append_assoc, take_at, drop_at, drop-drop}
 use Rattle.base.specs.Writing.{wrote}
 
 module _ (at : ℕ) (bytes out : List ℕ) (fits : at + length bytes ≤ length out) where

@@ -2,7 +2,6 @@
 use Rattle.std.specs.Prelude.{ℕ, ◌+◌, ◌*◌, ◌%◌, Bool, ◌&&◌, nat_le}
 use Rattle.base.specs.declared.counters.Height.{Height}
 use Rattle.base.specs.declared.counters.Round.{Round}
-use Rattle.base.specs.declared.counters.Member.{Member}
 use Rattle.base.specs.declared.pools.Pool.{Pool}
 use Rattle.base.specs.declared.pools.Pool.TheVariants.{Four, Seven, Ten}
 

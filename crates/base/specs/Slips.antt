@@ -1,7 +1,6 @@
 -- Slips and their 72 bytes.
-use Rattle.std.specs.Prelude.{◌≡◌, ℕ, ◌+◌, ◌^◌, ◌<◌, Bool, true, false, cond, not, ◌&&◌, List, [], ◌∷◌, ◌++◌, length, take, drop, replicate, Some, None, Option, ◌==◌}
+use Rattle.std.specs.Prelude.{◌≡◌, ℕ, ◌^◌, ◌<◌, Bool, true, false, cond, not, ◌&&◌, List, ◌++◌, length, take, drop, replicate, Some, None, Option, ◌==◌}
 use Rattle.base.specs.Numbers.{be4, four, all_zero}
-use Rattle.base.specs.declared.slips.Mark.{Mark}
 use Rattle.base.specs.declared.slips.Slip.{Slip}
 use Rattle.std.specs.Str.{bytes_eq}
 

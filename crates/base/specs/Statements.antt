@@ -1,5 +1,5 @@
 -- The bytes that members seal.
-use Rattle.std.specs.Prelude.{◌≡◌, ℕ, ◌^◌, ◌<◌, Bool, true, false, List, [], ◌++◌, take, Some, None, codes, Option}
+use Rattle.std.specs.Prelude.{◌≡◌, ℕ, ◌^◌, ◌<◌, false, List, [], ◌++◌, take, Some, None, codes, Option}
 use Rattle.base.specs.Numbers.{be4, all_zero}
 use Rattle.base.specs.Slips.{SlipFits, slip_bytes, page_bytes}
 use Rattle.base.specs.declared.slips.Slip.{Slip}

@@ -1,4 +1,6 @@
 // The words that every layer shares: counters, the pool's arithmetic, slips, statements, seals and refusals.
+#![tactic(auto)]
+
 pub mod counters;
 pub mod pools;
 pub mod refusals;

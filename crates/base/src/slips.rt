@@ -1,8 +1,10 @@
 // A slip stands for a candidate page of the receipt book.
-ghost use Rattle.std.specs.Prelude.{◌≡◌, ◌+◌, ◌<◌, ◌≤◌, length, take, drop, Decides};
+ghost use Rattle.std.specs.Prelude.{◌≡◌, ◌+◌, ◌<◌, ◌≤◌, length, take, drop, nat_eq, Decides};
 ghost use Rattle.base.specs.Slips.{slip_bytes, slip_of, SlipFits, one_page, same_page};
 ghost use Rattle.base.specs.Writing.{wrote};
 ghost use Rattle.std.specs.Cmp.Rules.{comparing};
+ghost use Rattle.std.specs.Ordering.{on};
+ghost use Rattle.std.specs.Cmp.Lexicographic.{pointwise};
 ghost use Rattle.std.proofs.Common.{rules};
 
 use crate::writing::{all_zero, four_at, put};
@@ -12,11 +14,14 @@ use crate::writing::{all_zero, four_at, put};
 pub struct Mark(pub [u8; 32]);
 
 impl PartialEq for Mark {
-    ghost equals = { λ a b r. Decides r (a ≡ b) };
+    ghost eq = { on (λ m. m.0) (pointwise nat_eq) };
 
     ghost laws = { Prim.search (comparing, rules) };
 
-    fn eq(&self, other: &Mark) -> bool {
+    fn eq(&self, other: &Mark) -> bool
+        ensures same { result ≡ on (λ m. m.0) (pointwise nat_eq) self.now other.now }
+        ensures decides { Decides result (self.now ≡ other.now) }
+    {
         let a = &self.0;
         let b = &other.0;
         a == b

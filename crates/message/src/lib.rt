@@ -1,4 +1,5 @@
 // Messages: their layout in bytes, read without allocation and in one pass over the table of contents.
+#![tactic(auto)]
 pub mod locks;
 pub mod parsing;
 pub mod readers;

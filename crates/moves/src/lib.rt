@@ -1,4 +1,5 @@
 // The calls that move a replica.
+#![tactic(auto)]
 mod acts;
 pub mod calls;
 pub mod comparing;

@@ -1,4 +1,5 @@
 // A walk through what the pool's members do with messages and with seals.
+#![tactic(auto)]
 mod layout;
 mod sealing;
 

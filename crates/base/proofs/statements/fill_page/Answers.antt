@@ -1,4 +1,4 @@
-use Rattle.std.proofs.Common.{◌≡◌, length, sym, ap, ◌∙◌, arith}
+use Rattle.std.proofs.Common.{length, sym, ap, ◌∙◌, arith}
 use Rattle.base.specs.Slips.{page_bytes}
 use Rattle.base.specs.Writing.{wrote}
 use Rattle.base.proofs.Distinct.{slip_long}

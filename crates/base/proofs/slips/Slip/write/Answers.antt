@@ -16,8 +16,8 @@ returns c =
     in let long-o : length o ≡ 32 = search rules
     in let e1 = c.put.ensures.written (omega arith)
     in let e2 = put_next at (at + 32) p o o out _ _ e1 refl (omega arith) (omega arith) c.put-2.ensures.written
-    in let e3 = put_next at (at + 64) (p ++ o) (be4 s.lots) _ out _ _ e2 c.to-be-bytes.ensures (simp length-append (omega arith)) (omega arith) c.put-3.ensures.written
-    in let e4 = put_next at (at + 68) ((p ++ o) ++ be4 s.lots) (be4 s.maker) _ out _ _ e3 c.to-be-bytes-2.ensures (simp length-append (omega arith)) (omega arith) c.put-4.ensures.written
+    in let e3 = put_next at (at + 64) (p ++ o) (be4 s.lots) _ out _ _ e2 c.to_be_bytes.ensures (simp length-append (omega arith)) (omega arith) c.put-3.ensures.written
+    in let e4 = put_next at (at + 68) ((p ++ o) ++ be4 s.lots) (be4 s.maker) _ out _ _ e3 c.to_be_bytes-2.ensures (simp length-append (omega arith)) (omega arith) c.put-4.ensures.written
     in record {
       fits = search rules;
       written = λ h. e4 ∙ ap (λ z. wrote at z out) (append_assoc (p ++ o) (be4 s.lots) (be4 s.maker) ∙ append_assoc p o (be4 s.lots ++ be4 s.maker));
