@@ -6,7 +6,8 @@ use Rattle.std.proofs.lemmas.List.{get_or-set_other}
 use Rattle.std.proofs.lemmas.Bool.{cond_both, and_parts, and_cases, or_parts, not-true, not-false, both_ways, eqb-false, leb-true, ltb-true}
 use Rattle.agree.specs.Pool.{Replica}
 use Rattle.agree.specs.Moves.{Ahead}
-use Rattle.agree.proofs.Log.{none_some, some_same}
+use Rattle.agree.specs.Lists.{In}
+use Rattle.agree.proofs.Log.{all_in, none_some, some_same}
 use Rattle.base.specs.Pools.{members, last_round}
 use Rattle.base.specs.Statements.{PageFits}
 use Rattle.base.specs.declared.slips.Mark.{Mark}
@@ -30,22 +31,35 @@ use Rattle.protocol.proofs.Stating.{fair_candidates, fair_latest, onward_look, o
 
 -- the highest round that passes a test passes it, and is of a statement
 module _ (test : ℕ → Bool) where
-  higher : (k r : ℕ) (o : Option ℕ) → test k ≡ true → k ≤ last_round → ((j : ℕ) → o ≡ Some j → (test j ≡ true) × (j ≤ last_round)) → higher_round k o ≡ r → (test r ≡ true) × (r ≤ last_round)
-  higher k r None t le f e = (subst (λ x. test x ≡ true) e t, subst (λ x. x ≤ last_round) e le)
-  higher k r (Some j) t le f e =
-      elim (dec_le j k) [
-        | yes low ↦ (let m : k ≡ r = omega (arith, e) in (subst (λ x. test x ≡ true) m t, subst (λ x. x ≤ last_round) m le))
-        | no high ↦ (let m : j ≡ r = omega (arith, e) in (subst (λ x. test x ≡ true) m (f j refl).0, subst (λ x. x ≤ last_round) m (f j refl).1))
+  -- a round of the list that passes
+  abbrev Found : List (Option Latest) → ℕ → Type 0
+  Found ls r = (test r ≡ true) × ((l : Latest) × In (Some l) ls × (l.round ≡ r))
+
+  later : (o : Option Latest) (ls : List (Option Latest)) (r : ℕ) → Found ls r → Found (o ∷ ls) r
+  later o ls r f = (f.0, (f.1.0, inr f.1.1, f.1.2))
+
+  higher : (l : Latest) (ls : List (Option Latest)) (r : ℕ) (o : Option ℕ) → test l.round ≡ true → ((j : ℕ) → o ≡ Some j → Found ls j) → higher_round l.round o ≡ r → Found (Some l ∷ ls) r
+  higher l ls r None t f e = (subst (λ x. test x ≡ true) e t, (l, inl refl, e))
+  higher l ls r (Some j) t f e =
+      elim (dec_le j l.round) [
+        | yes low ↦ (let m : l.round ≡ r = omega (arith, e) in (subst (λ x. test x ≡ true) m t, (l, inl refl, m)))
+        | no high ↦ (let m : j ≡ r = omega (arith, e) in subst (Found (Some l ∷ ls)) m (later (Some l) ls j (f j refl)))
       ]
 
-  highest : (ls : List (Option Latest)) (r : ℕ) → All LatestFits ls → highest_round test ls ≡ Some r → (test r ≡ true) × (r ≤ last_round)
-  highest [] r all e = absurd (none_some e)
-  highest (None ∷ ls) r all e = highest ls r all.1 e
-  highest (Some l ∷ ls) r all e =
-      cond_both (test l.round) (Some (higher_round l.round (highest_round test ls))) (highest_round test ls) (λ o. o ≡ Some r → (test r ≡ true) × (r ≤ last_round))
-      (λ t is. higher l.round r (highest_round test ls) t all.0.0 (λ j h. highest ls j all.1 h) (some_same is))
-      (λ t is. highest ls r all.1 is)
+  pub highest : (ls : List (Option Latest)) (r : ℕ) → highest_round test ls ≡ Some r → Found ls r
+  highest [] r e = absurd (none_some e)
+  highest (None ∷ ls) r e = later None ls r (highest ls r e)
+  highest (Some l ∷ ls) r e =
+      cond_both (test l.round) (Some (higher_round l.round (highest_round test ls))) (highest_round test ls) (λ o. o ≡ Some r → Found (Some l ∷ ls) r)
+      (λ t is. higher l ls r (highest_round test ls) t (λ j h. highest ls j h) (some_same is))
+      (λ t is. later (Some l) ls r (highest ls r is))
       e
+
+  -- it is in range
+  pub highest_late : (ls : List (Option Latest)) (r : ℕ) → All LatestFits ls → highest_round test ls ≡ Some r → r ≤ last_round
+  highest_late ls r all e =
+      let f = highest ls r e in
+      omega (arith, (all_in LatestFits ls (Some f.1.0) all f.1.1).0, f.1.2)
 
 changing_busy : (g : Stage) → is_changing g ≡ true → is_resting g ≡ false
 changing_busy Resting e = sym e
@@ -54,11 +68,11 @@ changing_busy Locking e = refl
 changing_busy Committing e = refl
 changing_busy Releasing e = refl
 
-locks_page : (page : Option Slip) (cs : List Candidate) → locks_of (shelved_page page cs) ≡ locks_of cs
+pub locks_page : (page : Option Slip) (cs : List Candidate) → locks_of (shelved_page page cs) ≡ locks_of cs
 locks_page None cs = refl
 locks_page (Some s) cs = locks_shelved s cs
 
-fit_page : (page : Option Slip) (cs : List Candidate) → PageFits page → All Fit cs → All Fit (shelved_page page cs)
+pub fit_page : (page : Option Slip) (cs : List Candidate) → PageFits page → All Fit cs → All Fit (shelved_page page cs)
 fit_page None cs f all = all
 fit_page (Some s) cs f all = fit_shelved s cs f all
 
@@ -73,8 +87,8 @@ module _ (a : Assembly) (start : ℕ → Replica Slip Mark) (w : World) (i : ℕ
   -- after a statement of another member was recorded
   recorded_lands : (u : View) → look_at i u ≡ look_at i (w.stations i).view → Fair (members a.pool) u → (o : Option ℕ) → highest_round (called_for (w.stations i).settings u) u.latest ≡ o → Lands a start w i here V [] seals (recorded_by (box_of a i (w.stations i)) taken u o)
   recorded_lands u same fair (Some r) is =
-      let top = highest (called_for (w.stations i).settings u) u.latest r fair.statements is in
-      states_lands a start w i here V seals taken u r (sym same) fair (ahead_from i u r (and_parts (is_ahead u r) _ top.0).0) top.1
+      let top = highest (called_for (w.stations i).settings u) u.latest r is in
+      states_lands a start w i here V seals taken u r (sym same) fair (ahead_from i u r (and_parts (is_ahead u r) _ top.0).0) (highest_late (called_for (w.stations i).settings u) u.latest r fair.statements is)
   recorded_lands u same fair None is =
       cond_both (is_changing u.stage) (onward (w.stations i).settings u) u (λ x. Lands a start w i here V [] seals (plainly taken x))
       (λ e. plain_lands a start w i here V seals taken (onward (w.stations i).settings u) (onward_look (w.stations i).settings i u (changing_busy u.stage e) ∙ same) (onward_fair _ (w.stations i).settings u fair))

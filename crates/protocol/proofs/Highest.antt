@@ -36,7 +36,7 @@ topped : (h : Option Held) (ls : List (Lock Slip)) → Topped (highest_lock h ls
 topped h [] = refl
 topped h (l ∷ ls) = best_topped h l (highest_lock h ls) ls (topped h ls)
 
-kept_is : (l : Lock Slip) (cs : List Candidate) (k : Lock Slip) → In k (locks_of (keep_only (Some l) cs)) → k ≡ l
+pub kept_is : (l : Lock Slip) (cs : List Candidate) (k : Lock Slip) → In k (locks_of (keep_only (Some l) cs)) → k ≡ l
 kept_is l [] k h = absurd h
 kept_is l (c ∷ cs) k was =
     cond_both (one_page c.slip l.page) (Some l.round) None (λ o. In k (lock_in c.slip o ++ locks_of (keep_only (Some l) cs)) → k ≡ l)
@@ -48,7 +48,7 @@ lock_page : (s : Slip) (o : Option ℕ) (l : Lock Slip) → In l (lock_in s o) �
 lock_page s None l h = absurd h
 lock_page s (Some r) l h = elim h [ inl e ↦ sym (ap (λ (x : Lock Slip). x.page) e) | inr n ↦ absurd n ]
 
-kept_there : (l : Lock Slip) (cs : List Candidate) → In l (locks_of cs) → In l (locks_of (keep_only (Some l) cs))
+pub kept_there : (l : Lock Slip) (cs : List Candidate) → In l (locks_of cs) → In l (locks_of (keep_only (Some l) cs))
 kept_there l [] h = absurd h
 kept_there l (c ∷ cs) h =
     elim (in_either (lock_in c.slip c.lock) (locks_of cs) l h) [

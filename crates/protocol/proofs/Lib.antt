@@ -18,3 +18,7 @@ pub mod Ahead
 pub mod Lasting
 pub mod Tested
 pub mod Witness
+pub mod Walking
+pub mod Held
+pub mod Votes
+pub mod Reading

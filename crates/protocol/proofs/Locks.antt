@@ -61,7 +61,7 @@ raised_there s r None = (on s r, inl refl, omega arith)
 raised_there s r (Some k) = (on s (max k r), inl refl, omega arith)
 
 module _ (s : Slip) (r : ℕ) where
-  locked_from : (cs : List Candidate) (l : Lock Slip) → In l (locks_of (locked_at s r cs)) → (l ≡ on s r) ⊎ In l (locks_of cs)
+  pub locked_from : (cs : List Candidate) (l : Lock Slip) → In l (locks_of (locked_at s r cs)) → (l ≡ on s r) ⊎ In l (locks_of cs)
   locked_from [] l h = absurd h
   locked_from (c ∷ cs) l was =
       cond_both (one_page c.slip s) (record { slip = c.slip; lock = raised c.lock r } ∷ cs) (c ∷ locked_at s r cs) (λ ds. In l (locks_of ds) → (l ≡ on s r) ⊎ In l (locks_of (c ∷ cs)))
@@ -82,7 +82,7 @@ module _ (s : Slip) (r : ℕ) where
       was
 
   -- a lock of a list that is as high
-  abbrev Over : ℕ → List (Lock Slip) → Type 0
+  abbrev pub Over : ℕ → List (Lock Slip) → Type 0
   Over n ls = (k : Lock Slip) × In k ls × (n ≤ k.round)
 
   over_new : (n : ℕ) (new old : List (Lock Slip)) → Over n new → Over n (new ++ old)
@@ -106,7 +106,7 @@ module _ (s : Slip) (r : ℕ) where
         | inr o ↦ over_old l.round (lock_in c.slip c.lock) (locks_of (locked_at s r cs)) (locked_over cs l o)
       ])
 
-  locked_there : (cs : List Candidate) → known s cs ≡ true → Over r (locks_of (locked_at s r cs))
+  pub locked_there : (cs : List Candidate) → known s cs ≡ true → Over r (locks_of (locked_at s r cs))
   locked_there [] e = absurd (both_ways false refl e)
   locked_there (c ∷ cs) e =
       cond_both (one_page c.slip s) (record { slip = c.slip; lock = raised c.lock r } ∷ cs) (c ∷ locked_at s r cs) (λ ds. Over r (locks_of ds))
@@ -130,7 +130,7 @@ module _ (s : Slip) (r : ℕ) where
       ]))
 
   -- a lock above all others, which go
-  above_each : (ls : List (Lock Slip)) → above_all r ls ≡ true → All (λ (l : Lock Slip). l.round < r) ls
+  pub above_each : (ls : List (Lock Slip)) → above_all r ls ≡ true → All (λ (l : Lock Slip). l.round < r) ls
   above_each [] e = tt
   above_each (l ∷ ls) e = let p = and_parts (ltb l.round r) (above_all r ls) e in (ltb-true l.round r p.0, above_each ls p.1)
 

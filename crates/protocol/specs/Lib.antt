@@ -9,3 +9,4 @@ pub mod Runs
 pub mod Subject
 pub mod Reckoned
 pub mod Witness
+pub mod Laws
