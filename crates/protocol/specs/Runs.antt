@@ -22,7 +22,7 @@ use Rattle.protocol.specs.Messages.{judge_message}
 use Rattle.protocol.specs.Plans.{Done, settled}
 use Rattle.protocol.specs.State.{Settings, View, Rules, Box, settings_lawful, first_view}
 use Rattle.protocol.specs.Turns.{Gathering, Counting, Records, judge_opening, judge_forward, judge_commit, judge_closing}
-use Rattle.std.specs.List.{AllByRecursion as All}
+use Rattle.std.specs.List.{AllByRecursion}
 
 -- A pool: its size, which members are sound, at most t of them not; and for each member what its own checker
 -- recognises, how long its seals are, and its own rulebook. They need not be the same.
@@ -176,7 +176,7 @@ module _ (a : Assembly) where
 
   abbrev pub Vouched : ℕ → List (ℕ × List ℕ) → Option (Sent (List ℕ)) → Type 0
   Vouched i log None = Unit {0}
-  Vouched i log (Some s) = All (λ (k : Check). recognised (a.knows i) k ≡ true → SealedBefore log k) (checks_of s.head s.content)
+  Vouched i log (Some s) = AllByRecursion (λ (k : Check). recognised (a.knows i) k ≡ true → SealedBefore log k) (checks_of s.head s.content)
 
   -- the premise on seals, at an accepted message: every statement in it, the lock inside a release included, in a
   -- sound member's name and under a seal that the checker of the member called recognises, was sealed by that member
