@@ -15,7 +15,7 @@ use Rattle.base.specs.declared.statements.Word.TheVariants.{Rchg, Cand, Cmit, Lo
 use Rattle.message.specs.Contents.{Signed, Cert, Locked, Content, change, lock, select, commit, decide, release, Sent}
 use Rattle.message.specs.declared.shapes.Head.{Head}
 use Rattle.protocol.specs.Rounds.{says, is_locking, is_releasing, has_place, locks_of}
-use Rattle.protocol.specs.State.{Candidate, Latest, View, same_page}
+use Rattle.protocol.specs.State.{Latest, View, same_page}
 use Rattle.agree.specs.Pool.{Lock as KeptLock}
 use Rattle.std.specs.Str.{bytes_eq}
 

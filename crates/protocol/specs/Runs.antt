@@ -1,5 +1,5 @@
 -- Runs of a pool: any list of calls on the replicas of its sound members.
-use Rattle.std.specs.Prelude.{◌≡◌, ℕ, ◌+◌, ◌*◌, ◌<◌, ◌≤◌, Bool, true, false, cond, not, List, [], ◌∷◌, ◌++◌, map, is_ok, Some, None, Option, ◌==◌}
+use Rattle.std.specs.Prelude.{◌≡◌, ℕ, ◌<◌, ◌≤◌, Bool, true, false, cond, not, List, [], ◌∷◌, ◌++◌, map, is_ok, Some, None, Option, ◌==◌}
 use Rattle.agree.specs.Lists.{In, count}
 use Rattle.agree.specs.Pool.{Pool as AbstractPool, Event, Event.opened, Event.stated, Event.took, Event.committed, Event.entered}
 use Rattle.agree.specs.Agreement.{Agreed}
@@ -8,7 +8,6 @@ use Rattle.base.specs.Pools.{members, tolerance}
 use Rattle.base.specs.Slips.{SlipFits}
 use Rattle.base.specs.Statements.{statement_bytes}
 use Rattle.base.specs.declared.pools.Pool.{Pool}
-use Rattle.base.specs.declared.refusals.Refusal.{Refusal}
 use Rattle.base.specs.declared.slips.Mark.{Mark}
 use Rattle.base.specs.declared.slips.Slip.{Slip}
 use Rattle.base.specs.declared.statements.Statement.{Statement}
@@ -17,7 +16,7 @@ use Rattle.base.specs.declared.statements.Word.TheVariants.{Rchg, Cand, Cmit, Lo
 use Rattle.message.specs.Contents.{Content, change, lock, select, commit, decide, release, Sent}
 use Rattle.message.specs.RoundTrip.{fields}
 use Rattle.protocol.specs.Calls.{judge_offer, judge_begin, judge_tick}
-use Rattle.protocol.specs.Judging.{Check, checks_of, recognised, height_in, round_in, outranks}
+use Rattle.protocol.specs.Judging.{Check, checks_of, recognised, round_in, outranks}
 use Rattle.protocol.specs.Messages.{judge_message}
 use Rattle.protocol.specs.Plans.{Done, settled}
 use Rattle.protocol.specs.State.{Settings, View, Rules, Box, settings_lawful, first_view}
