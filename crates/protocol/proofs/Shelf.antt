@@ -69,7 +69,7 @@ fit_map f same cs all =
     All-map Fit f cs (All-weaker Fit (λ c. Fit (f c)) (λ c h. subst (λ s. PageFits (Some s)) (sym (same c)) h) cs all)
 
 -- the candidate that is stated is a page of the program
-top_fits : (above : Slip → Slip → Bool) (cs : List Candidate) → All Fit cs → PageFits (top_of above cs)
+pub top_fits : (above : Slip → Slip → Bool) (cs : List Candidate) → All Fit cs → PageFits (top_of above cs)
 top_fits above [] all = tt
 top_fits above (c ∷ cs) all = better (top_of above cs) (top_fits above cs all.1)
   where

@@ -1,5 +1,5 @@
 -- That a given run is lawful, by a test that computes.
-use Rattle.std.proofs.Common.{◌≡◌, ℕ, zero, suc, ◌^◌, ◌<◌, Bool, true, false, not, ◌&&◌, ◌||◌, eqb, ltb, List, [], ◌∷◌, length, Some, None, Option, sym, refl, ◌∙◌, inl, inr}
+use Rattle.std.proofs.Common.{◌≡◌, ℕ, zero, suc, ◌^◌, ◌<◌, Bool, true, false, not, ◌&&◌, ◌||◌, eqb, ltb, leb, List, [], ◌∷◌, length, Some, None, Option, sym, refl, ◌∙◌, inl, inr}
 use Rattle.agree.specs.Lists.{In}
 use Rattle.base.specs.Numbers.{Bytes}
 use Rattle.base.specs.Pools.{members, tolerance}
@@ -12,10 +12,11 @@ use Rattle.message.specs.Contents.{Sent}
 use Rattle.message.specs.RoundTrip.{fields}
 use Rattle.std.proofs.ByRecursion.{All-weaker}
 use Rattle.protocol.specs.Judging.{Check, checks_of, recognised}
-use Rattle.protocol.specs.Runs.{Assembly, Call, opens, offers, begins, ticks, takes, turns, forwards, counts, closes, Act, Station, World, played, SealedBefore, Vouched, Fitting, LawfulRun}
+use Rattle.protocol.specs.Laws.{WellSealed}
+use Rattle.protocol.specs.Runs.{Assembly, Call, step_at, opens, offers, begins, ticks, takes, turns, forwards, counts, closes, Act, Station, World, played, SealedBefore, Vouched, Fitting, LawfulRun}
 use Rattle.protocol.specs.State.{settings_lawful}
 use Rattle.std.proofs.lemmas.Slice.Eq.{bytes_eq-Decides}
-use Rattle.std.proofs.lemmas.Bool.{and_parts, or_cases, eqb-true, ltb-true, not-true, false≢true}
+use Rattle.std.proofs.lemmas.Bool.{and_parts, or_cases, eqb-true, leb-true, ltb-true, not-true, false≢true}
 use Rattle.std.specs.List.{AllByRecursion as All}
 use Rattle.std.specs.Str.{bytes_eq}
 
@@ -150,6 +151,21 @@ module _ (a : Assembly) where
         let m = and_parts (ltb act.who (members a.pool)) _ r.1 in
         let s = and_parts (a.sound act.who) (fitting (played a start run) act act.call) m.1 in
         (lawful_hold closed run r.0, (ltb-true act.who (members a.pool) m.0, (s.0, fitting_hold (played a start run) act act.call s.1)))
+
+    -- seals of the length, as many as statements are sealed
+    abbrev pub well_sealed : List Act → Bool
+    well_sealed [] = true
+    well_sealed (act ∷ run) =
+        well_sealed run && (all (λ (s : List ℕ). eqb (length s) (a.long act.who)) act.seals && leb (length (step_at a (played a start run) act).sealed) (length act.seals))
+
+    pub well_sealed_hold : (run : List Act) → well_sealed run ≡ true → WellSealed a start run
+    well_sealed_hold [] e = tt
+    well_sealed_hold (act ∷ run) e =
+        let r = and_parts (well_sealed run) _ e in
+        let l = and_parts (all (λ (s : List ℕ). eqb (length s) (a.long act.who)) act.seals) (leb (length (step_at a (played a start run) act).sealed) (length act.seals)) r.1 in (
+          well_sealed_hold run r.0,
+          (all_hold (λ (s : List ℕ). length s ≡ a.long act.who) (λ (s : List ℕ). eqb (length s) (a.long act.who)) (λ s h. eqb-true (length s) (a.long act.who) h) act.seals l.0, leb-true _ (length act.seals) l.1),
+        )
 
 -- an element by its place
 abbrev pub At : {X : Type 0} → ℕ → X → List X → Type 0

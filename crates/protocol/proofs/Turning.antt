@@ -24,7 +24,7 @@ use Rattle.protocol.proofs.Keeping.{Fair}
 use Rattle.protocol.proofs.Seals.{Silent}
 use Rattle.protocol.proofs.Settling.{Passing, passes, refuses, passing, late_one, Here, fair_is, stays, Lands, plain_lands}
 
-abbrev gathered : View → Gathering
+abbrev pub gathered : View → Gathering
 gathered v = record { height = v.height; round = v.round }
 
 -- past the seals

@@ -1,8 +1,9 @@
 -- The witness run passes the tests, and its log has the events that are named.
 use Rattle.std.proofs.Common.{Some, None, refl}
 use Rattle.agree.specs.Pool.{Event.stated, Event.took, Event.committed, Event.entered}
+use Rattle.protocol.specs.Laws.{WellSealed}
 use Rattle.protocol.specs.Witness.{four, unopened, whole, log, A, B, RunsHappen}
-use Rattle.protocol.proofs.Tested.{lawful_hold, in_at}
+use Rattle.protocol.proofs.Tested.{lawful_hold, well_sealed_hold, in_at}
 
 pub happen : RunsHappen
 happen =
@@ -22,3 +23,6 @@ happen =
       entered_second_0 = in_at 1 (entered 0 2 B) log refl;
       entered_second_1 = in_at 0 (entered 1 2 B) log refl;
     }
+
+pub sealed_well : WellSealed four unopened whole
+sealed_well = well_sealed_hold four unopened whole refl

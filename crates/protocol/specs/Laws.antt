@@ -1,6 +1,6 @@
 -- Laws of the lock message that is held, of releases, and of what is written.
 use Rattle.std.specs.Prelude.{◌≡◌, ℕ, ◌+◌, ◌<◌, ◌≤◌, true, List, [], ◌∷◌, length, take, is_ok, Some, None, Option}
-use Rattle.std.specs.List.{AllByRecursion as All}
+use Rattle.std.specs.List.{AllByRecursion}
 use Rattle.agree.specs.Lists.{In}
 use Rattle.agree.specs.Pool.{Lock}
 use Rattle.base.specs.Pools.{members, quorum}
@@ -24,7 +24,7 @@ use Rattle.protocol.specs.Witness.{written_by}
 -- locked in its round, and no lock is of a higher round
 abbrev pub HighestHeld : Option Held → List (Lock Slip) → Type 0
 HighestHeld None locks = locks ≡ []
-HighestHeld (Some h) locks = In (record { page = h.slip; round = h.round }) locks × All (λ (l : Lock Slip). l.round ≤ h.round) locks
+HighestHeld (Some h) locks = In (record { page = h.slip; round = h.round }) locks × AllByRecursion (λ (l : Lock Slip). l.round ≤ h.round) locks
 
 -- in every state that a replica comes to
 abbrev pub HeldIsHighest : Type 0
@@ -41,7 +41,7 @@ ReleaseNeedsHigher =
     → fields b.settings.pool b.sealer.long m ≡ Some (record { head = h; content = release l inner own })
     → is_ok (settled b fill size (judge_message b m) seals).answer ≡ true
     → ((k : Lock Slip) → In k (locks_of b.view.candidates) → round_in inner.head ≤ k.round → (settled b fill size (judge_message b m) seals).view ≡ b.view)
-    × (All (λ (k : Lock Slip). k.round < round_in inner.head) (locks_of b.view.candidates)
+    × (AllByRecursion (λ (k : Lock Slip). k.round < round_in inner.head) (locks_of b.view.candidates)
     → ((settled b fill size (judge_message b m) seals).view.held ≡ Some (record { slip = inner.cert.slip; round = round_in inner.head; bytes = l }))
     × (locks_of (settled b fill size (judge_message b m) seals).view.candidates ≡ record { page = inner.cert.slip; round = round_in inner.head } ∷ []))
 
@@ -100,7 +100,7 @@ abbrev pub WellSealed : Assembly → (ℕ → Station) → List Act → Type 0
 WellSealed a start [] = Unit {0}
 WellSealed a start (act ∷ run) =
     WellSealed a start run
-    × (All (λ (s : List ℕ). length s ≡ a.long act.who) act.seals × (length (step_at a (played a start run) act).sealed ≤ length act.seals))
+    × (AllByRecursion (λ (s : List ℕ). length s ≡ a.long act.who) act.seals × (length (step_at a (played a start run) act).sealed ≤ length act.seals))
 
 -- a record's seal has that length
 abbrev pub RecordFits : ℕ → Option Committed → Type 0
@@ -109,7 +109,7 @@ RecordFits n (Some c) = length c.seal ≡ n
 
 -- a turn that is closed is of a page of the program, and the records hold seals of the length
 abbrev pub TurnFits : ℕ → Call → Type 0
-TurnFits n c = (t : Counting) (rs : Records) → c ≡ closes t rs → PageFits (Some t.page) × All (RecordFits n) rs
+TurnFits n c = (t : Counting) (rs : Records) → c ≡ closes t rs → PageFits (Some t.page) × AllByRecursion (RecordFits n) rs
 
 -- what a call writes are the bytes of the fields that the rules name, and reads back as them
 abbrev pub WritesReadBack : Type 0
