@@ -1,10 +1,16 @@
 -- Certificates of the witness run, found by reading its log. Assumes nothing.
-use Rattle.std.proofs.Common.{◌≡◌, ℕ, zero, suc, ◌≤◌, Bool, true, false, not, ◌&&◌, ◌||◌, eqb, List, [], ◌∷◌, Some, None, refl, inl, inr}
+use Rattle.std.proofs.Common.{◌≡◌, ℕ, zero, suc, ◌≤◌, Bool, true, false, not, ◌&&◌, ◌||◌, eqb, List, [], ◌∷◌, Some, None, refl, inl, inr, lit≤}
 use Rattle.std.proofs.lemmas.Bool.{both_ways, or_cases, and_parts, eqb-true, not-true}
 use Rattle.agree.specs.Lists.{In, count}
-use Rattle.agree.specs.Pool.{Event, Event.opened, Event.stated, Event.took, Event.committed, Event.entered, Certified, Decided}
-use Rattle.agree.specs.Witness.{four}
+use Rattle.agree.specs.Pool.{Few, Pool, Event, Event.opened, Event.stated, Event.took, Event.committed, Event.entered, Certified, Decided}
+use Rattle.agree.specs.Witness.{sound, four}
 use Rattle.agree.proofs.Quorums.{several}
+
+pub few_faulty : Few 1 sound
+few_faulty = lit≤ tt
+
+abbrev pub witness_pool : Pool ℕ ℕ
+witness_pool = four few_faulty
 
 abbrev pub Log : Type 0
 Log = List (Event ℕ ℕ)
@@ -58,24 +64,24 @@ some_in f x is (e ∷ log) t = elim (or_cases (f e) (some f log) t) [ inl y ↦ 
 
 -- members who are not sound, or of whom the log has it
 abbrev pub stating : Log → ℕ → ℕ → ℕ → ℕ → Bool
-stating log h r p i = not (four.sound i) || some (is_stated i h r p) log
+stating log h r p i = not (sound i) || some (is_stated i h r p) log
 
 abbrev pub committing : Log → ℕ → ℕ → ℕ → ℕ → Bool
-committing log h r p i = not (four.sound i) || some (is_committed i h r p) log
+committing log h r p i = not (sound i) || some (is_committed i h r p) log
 
-pub cert : (log : Log) (h r p : ℕ) → 3 ≤ count (stating log h r p) 4 → Certified four log h r p
+pub cert : (log : Log) (h r p : ℕ) → 3 ≤ count (stating log h r p) 4 → Certified witness_pool log h r p
 cert log h r p many =
-    several four 3 (stating log h r p) (λ i. four.sound i ≡ true → In (stated i h r (Some p)) log) many
-    (λ i t s. elim (or_cases (not (four.sound i)) (some (is_stated i h r p) log) t) [
-      | inl n ↦ absurd (both_ways (four.sound i) (not-true (four.sound i) n) s)
+    several witness_pool 3 (stating log h r p) (λ i. sound i ≡ true → In (stated i h r (Some p)) log) many
+    (λ i t s. elim (or_cases (not (sound i)) (some (is_stated i h r p) log) t) [
+      | inl n ↦ absurd (both_ways (sound i) (not-true (sound i) n) s)
       | inr y ↦ some_in (is_stated i h r p) (stated i h r (Some p)) (stated_is i h r p) log y
     ])
 
-pub decision : (log : Log) (h r p : ℕ) → 3 ≤ count (committing log h r p) 4 → Decided four log h r p
+pub decision : (log : Log) (h r p : ℕ) → 3 ≤ count (committing log h r p) 4 → Decided witness_pool log h r p
 decision log h r p many =
-    several four 3 (committing log h r p) (λ i. four.sound i ≡ true → In (committed i h r p) log) many
-    (λ i t s. elim (or_cases (not (four.sound i)) (some (is_committed i h r p) log) t) [
-      | inl n ↦ absurd (both_ways (four.sound i) (not-true (four.sound i) n) s)
+    several witness_pool 3 (committing log h r p) (λ i. sound i ≡ true → In (committed i h r p) log) many
+    (λ i t s. elim (or_cases (not (sound i)) (some (is_committed i h r p) log) t) [
+      | inl n ↦ absurd (both_ways (sound i) (not-true (sound i) n) s)
       | inr y ↦ some_in (is_committed i h r p) (committed i h r p) (committed_is i h r p) log y
     ])
 

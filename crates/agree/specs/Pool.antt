@@ -4,12 +4,16 @@ use Rattle.std.specs.Prelude.{◌≡◌, ℕ, ◌+◌, ◌*◌, ◌<◌, ◌≤�
 use Rattle.std.specs.List.{AllByRecursion as All}
 use Rattle.agree.specs.Lists.{In, Distinct, count}
 
+-- Of the 3t + 1 members that are numbered from 0, at most t are not sound.
+abbrev pub Few : ℕ → (ℕ → Bool) → Type 0
+Few t sound = count (λ i. not (sound i)) (3 * t + 1) ≤ t
+
 -- A pool of 3t + 1 members, numbered from 0, of whom at most t are not sound.
 -- `admits i h p`: the rulebook of member i admits page p at height h.
 pub record Pool (P M : Type 0) : Type 0 where
   pub t : ℕ
   pub sound : ℕ → Bool
-  pub few : count (λ i. not (sound i)) (3 * t + 1) ≤ t
+  pub few : Few t sound
   pub admits : ℕ → ℕ → P → Bool
   pub own : P → M
   pub parent : P → M

@@ -1,14 +1,17 @@
 -- A run that meets every premise, so that the theorem speaks of something.
 -- Four members of whom member 3 is not sound. Pages and marks are numbers: page 172 stands on mark 17 and has the mark 172.
-use Rattle.std.specs.Prelude.{ℕ, ◌/◌, true, false, List, [], ◌∷◌, Some, None, nat_lt}
-use Rattle.std.proofs.Common.{lit≤}
+use Rattle.std.specs.Prelude.{ℕ, ◌/◌, Bool, true, false, List, [], ◌∷◌, Some, None, nat_lt}
 use Rattle.agree.specs.Lists.{In}
-use Rattle.agree.specs.Pool.{Pool, Event.stated, Event.took, Event.committed, Event.entered, Lock, Replica}
+use Rattle.agree.specs.Pool.{Few, Pool, Event.stated, Event.took, Event.committed, Event.entered, Lock, Replica}
 use Rattle.agree.specs.Moves.{Move, Move.starts, Move.states, Move.repeats, Move.locks, Move.passes, Move.releases, Move.enters}
 use Rattle.agree.specs.Runs.{Act, played, Lawful}
 
-abbrev pub four : Pool ℕ ℕ
-four = record { t = 1; sound = λ i. nat_lt i 3; few = lit≤ tt; admits = λ i h p. nat_lt p 1000; own = λ p. p; parent = λ p. p / 10 }
+abbrev pub sound : ℕ → Bool
+sound = λ i. nat_lt i 3
+
+-- the pool, from the fact that at most one of its members is not sound
+abbrev pub four : Few 1 sound → Pool ℕ ℕ
+four few = record { t = 1; sound = sound; few = few; admits = λ i h p. nat_lt p 1000; own = λ p. p; parent = λ p. p / 10 }
 
 abbrev pub unopened : ℕ → Replica ℕ ℕ
 unopened i = record { live = false; height = 0; round = 0; rests = true; latest = None; held = []; last = 0 }
@@ -65,9 +68,10 @@ whole =
     ∷ second
 
 pub record Happens : Type 0 where
-  pub lawful : Lawful four unopened whole
-  pub disputed : In (stated 1 1 0 (Some 18)) (played four unopened whole).log
-  pub committed_early : In (committed 0 1 0 17) (played four unopened whole).log
-  pub released : In (took 1 1 0 17) (played four unopened whole).log
-  pub entered_first : In (entered 2 1 17) (played four unopened whole).log
-  pub entered_second : In (entered 1 2 172) (played four unopened whole).log
+  pub few : Few 1 sound
+  pub lawful : Lawful (four few) unopened whole
+  pub disputed : In (stated 1 1 0 (Some 18)) (played (four few) unopened whole).log
+  pub committed_early : In (committed 0 1 0 17) (played (four few) unopened whole).log
+  pub released : In (took 1 1 0 17) (played (four few) unopened whole).log
+  pub entered_first : In (entered 2 1 17) (played (four few) unopened whole).log
+  pub entered_second : In (entered 1 2 172) (played (four few) unopened whole).log

@@ -1,6 +1,7 @@
 // Agreement of a pool of replicas, as a theorem on the moves that a sound replica may make.
 // The contracts below carry it; the calls themselves do nothing.
 #![tactic(auto)]
+
 ghost use Rattle.agree.specs.Agreement.{Agreement};
 ghost use Rattle.agree.specs.Witness.{Happens};
 

@@ -1,7 +1,7 @@
 -- Laws of reading on: what is left after a body, and when none is left.
-use Rattle.std.proofs.Common.{◌≡◌, ℕ, zero, suc, ◌+◌, ◌-◌, ◌*◌, ◌<◌, ◌≤◌, Bool, true, false, cond, ◌&&◌, eqb, ltb, leb, List, [], ◌∷◌, length, Some, None, Option, sym, refl, ap, ◌∙◌, arith}
+use Rattle.std.proofs.Common.{◌≡◌, ℕ, zero, suc, ◌+◌, ◌-◌, ◌*◌, ◌<◌, ◌≤◌, Bool, true, false, cond, ◌&&◌, eqb, List, [], ◌∷◌, length, Some, None, Option, sym, refl, ap, ◌∙◌, arith}
 use Rattle.std.proofs.lemmas.Bool.Decides.{nat_tests}
-use Rattle.message.specs.Layout.{Entry, Place, count, opens, opening, ready, entry_at, length_at, entries_from, end_from, next_of, after_next, left, ending, whole}
+use Rattle.message.specs.Layout.{Entry, Place, count, ready, entry_at, length_at, entries_from, end_from, next_of, after_next, left, ending, whole}
 use Rattle.message.specs.Shapes.{ended}
 use Rattle.message.specs.Steps.{Nexted}
 

@@ -1,13 +1,13 @@
 -- Steps of reading one after the other, where the message may not be whole.
-use Rattle.std.proofs.Common.{◌≡◌, ℕ, Bool, true, false, cond, ◌&&◌, eqb, List, ◌∷◌, length, get_or, Some, None, Option, sym, refl, ap, ◌∙◌, arith}
+use Rattle.std.proofs.Common.{◌≡◌, ℕ, Bool, true, false, cond, ◌&&◌, eqb, List, ◌∷◌, get_or, Some, None, Option, sym, refl, ap, ◌∙◌, arith}
 use Rattle.std.proofs.lemmas.Bool.Decides.{nat_tests}
 use Rattle.base.specs.Kinds.{kind_of}
 use Rattle.base.specs.Pools.{quorum}
 use Rattle.base.specs.declared.pools.Pool.{Pool}
 use Rattle.base.specs.declared.stages.Kind.{Kind}
 use Rattle.message.specs.Contents.{Cert, Content, Locked}
-use Rattle.message.specs.Layout.{Piece, Entry, Place, opens, opening, left, ending, whole}
-use Rattle.message.specs.Shapes.{and_then, cert_of, content_of, head_of, in_range, laid, lock_of, take_lock, parsed}
+use Rattle.message.specs.Layout.{Piece, Entry, Place, opening, left, ending, whole}
+use Rattle.message.specs.Shapes.{and_then, cert_of, content_of, head_of, in_range, lock_of, take_lock, parsed}
 use Rattle.message.specs.Steps.{OpenedAs}
 use Rattle.message.specs.declared.shapes.Head.{Head}
 use Rattle.message.proofs.Votes.{whole_same}

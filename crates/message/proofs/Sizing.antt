@@ -1,12 +1,12 @@
 -- How long tables, bodies and whole messages are.
-use Rattle.std.proofs.Common.{◌≡◌, ℕ, suc, ◌+◌, ◌*◌, List, [], ◌∷◌, ◌++◌, map, length, Some, None, sym, refl, ap, ◌∙◌, suc-mul, add_comm, arith}
+use Rattle.std.proofs.Common.{◌≡◌, ℕ, suc, ◌+◌, ◌*◌, List, [], ◌∷◌, map, length, Some, None, sym, refl, ap, ◌∙◌, suc-mul, add_comm, arith}
 use Rattle.std.proofs.lemmas.List.{length-append, length-map}
 use Rattle.base.specs.Pools.{quorum}
 use Rattle.base.specs.Slips.{slip_bytes}
 use Rattle.base.specs.declared.pools.Pool.{Pool}
 use Rattle.base.proofs.Distinct.{slip_long}
-use Rattle.message.specs.Contents.{Signed, Cert, Content, change, lock, select, commit, decide, release, Sent}
-use Rattle.message.specs.Encoding.{Block, table, bodies, framed, blocks, cert_blocks, vote_block, encoded, encoded_lock, kind_in, Rising, Lawful, LawfulCert, LawfulContent}
+use Rattle.message.specs.Contents.{Signed, Cert, Content, change, lock, select, commit, decide, release}
+use Rattle.message.specs.Encoding.{Block, table, bodies, framed, blocks, cert_blocks, vote_block, encoded, kind_in, Rising, LawfulCert, LawfulContent}
 use Rattle.message.specs.Sizes.{cert_size, size_of, names_slip, SizesHold, SizesReckoned}
 use Rattle.message.specs.declared.shapes.Head.{Head}
 

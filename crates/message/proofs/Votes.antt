@@ -1,6 +1,5 @@
 -- Reading the quorum's seals: what is left decides.
-use Rattle.std.proofs.Common.{◌≡◌, ℕ, ◌+◌, Bool, true, false, ◌&&◌, eqb, leb, List, [], ◌∷◌, length, sym, refl, ap, ◌∙◌, arith}
-use Rattle.std.proofs.lemmas.Bool.Decides.{nat_tests}
+use Rattle.std.proofs.Common.{◌≡◌, ℕ, ◌+◌, Bool, true, false, ◌&&◌, eqb, leb, List, [], ◌∷◌, length, sym, refl, ap, ◌∙◌}
 use Rattle.message.specs.Layout.{Entry, Place, opens, left, ending, whole}
 use Rattle.message.specs.Shapes.{rising, ended}
 

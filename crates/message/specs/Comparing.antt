@@ -1,11 +1,9 @@
 -- Which of two lock messages is handed on.
-use Rattle.std.specs.Prelude.{ℕ, cond, List, Some, None, Ok, Err, Option, Result, nat_lt}
-use Rattle.base.specs.declared.pools.Pool.{Pool}
+use Rattle.std.specs.Prelude.{cond, Some, None, Ok, Err, Option, Result, nat_lt}
 use Rattle.base.specs.declared.refusals.Refusal.{Refusal}
 use Rattle.base.specs.declared.refusals.Refusal.TheVariants.{Misshapen}
 use Rattle.message.specs.Contents.{Locked}
 use Rattle.message.specs.Layout.{Piece}
-use Rattle.message.specs.Shapes.{lock_of}
 
 -- the received one if it is of a higher round, else the kept one; refused if either is no lock message
 abbrev pub higher_of : {X : Type 0} → Option (Locked Piece) → Option (Locked Piece) → X → X → Result X Refusal

@@ -1,5 +1,5 @@
 -- How a message is written, and which fields a message can have.
-use Rattle.std.specs.Prelude.{◌≡◌, ℕ, ◌+◌, ◌*◌, ◌^◌, ◌<◌, ◌≤◌, Bool, true, List, [], ◌∷◌, ◌++◌, map, length, Some, None, Option}
+use Rattle.std.specs.Prelude.{◌≡◌, ℕ, ◌+◌, ◌<◌, ◌≤◌, true, List, [], ◌∷◌, ◌++◌, map, length, Some, None, Option}
 use Rattle.base.specs.Kinds.{kind_number}
 use Rattle.base.specs.Numbers.{be2, be4}
 use Rattle.base.specs.Pools.{quorum}

@@ -1,5 +1,5 @@
 -- Every written message reads back as its fields, and no other bytes read as those fields.
-use Rattle.std.specs.Prelude.{◌≡◌, ℕ, ◌≤◌, List, Some, None, Option}
+use Rattle.std.specs.Prelude.{◌≡◌, ℕ, ◌≤◌, List, Some, Option}
 use Rattle.base.specs.Numbers.{Bytes}
 use Rattle.base.specs.declared.pools.Pool.{Pool}
 use Rattle.message.specs.Contents.{Sent, on_sent}

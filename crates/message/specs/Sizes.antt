@@ -1,5 +1,5 @@
 -- How long a message is.
-use Rattle.std.specs.Prelude.{◌≡◌, ℕ, ◌+◌, ◌*◌, Bool, true, false, List, [], ◌∷◌, length, Some, None}
+use Rattle.std.specs.Prelude.{◌≡◌, ℕ, ◌+◌, ◌*◌, Bool, true, false, List, length, Some, None}
 use Rattle.base.specs.Pools.{quorum}
 use Rattle.base.specs.declared.pools.Pool.{Pool}
 use Rattle.base.specs.declared.pools.Pool.TheVariants.{Four, Ten}

@@ -1,6 +1,6 @@
 -- What the values of the program stand for.
-use Rattle.std.specs.Prelude.{ℕ, map, Ok, Err, Result}
-use Rattle.message.specs.Contents.{Signed, Cert, Locked, Content, change, lock, select, commit, decide, release, Sent}
+use Rattle.std.specs.Prelude.{map, Ok, Err, Result}
+use Rattle.message.specs.Contents.{Cert, Locked, Content, change, lock, select, commit, decide, release, Sent}
 use Rattle.message.specs.Layout.{Piece, Entry, Place, left}
 use Rattle.message.specs.Shapes.{signed_of}
 use Rattle.message.specs.declared.readers.Part.{Part}

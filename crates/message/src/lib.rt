@@ -1,5 +1,6 @@
 // Messages: their layout in bytes, read without allocation and in one pass over the table of contents.
 #![tactic(auto)]
+
 pub mod locks;
 pub mod parsing;
 pub mod readers;

@@ -4,13 +4,13 @@ use Rattle.message.proofs.Shaping.{lock_found}
 use Rattle.message.proofs.Counts.{counted_whole}
 use Rattle.message.proofs.parsing.parse_lock.Goals as goal
 
-pub returns-in-default-certificate : goal.returns-in-default-certificate
-returns-in-default-certificate c =
+pub returns-in_default-certificate : goal.returns-in_default-certificate
+returns-in_default-certificate c =
     let o = c.in-Some.field-0
     in record {
       reads =
-          lock_found c.args.pool c.args.seal-len c.quorum.result o.kind c.args.message.now o.head (place_of o.bodies) None
-          c.in-Some.ensures c.if-kind-ne2.false c.quorum.ensures c.in-default-certificate.ensures.reads;
+          lock_found c.args.pool c.args.seal_len c.quorum.result o.kind c.args.message.now o.head (place_of o.bodies) None
+          c.in-Some.ensures c.if-kind-ne2.false c.quorum.ensures c.in_default-certificate.ensures.reads;
       wholes = tt;
     }
 
@@ -19,7 +19,7 @@ returns c =
     let o = c.in-Some.field-0
     in record {
       reads =
-          lock_found c.args.pool c.args.seal-len c.quorum.result o.kind c.args.message.now o.head (place_of o.bodies) (Some (cert_view c.in-Some-certificate.certificate))
+          lock_found c.args.pool c.args.seal_len c.quorum.result o.kind c.args.message.now o.head (place_of o.bodies) (Some (cert_view c.in-Some-certificate.certificate))
           c.in-Some.ensures c.if-kind-ne2.false c.quorum.ensures c.in-Some-certificate.ensures.reads;
       wholes = counted_whole c.args.pool c.quorum.result c.in-Some-certificate.certificate c.quorum.ensures c.in-Some-certificate.ensures.counted;
     }

@@ -11,9 +11,9 @@ returns-then-lock-height c =
     in record {
       took = (
         ap (take_lock c.args.pool c.args.len c.args.height.0) n.0
-            ∙ took_lock c.args.pool c.args.len c.args.height.0 (entry_of c.in-Some.found) (left (place_of c.body.new.reader)) (lock_view c.in-Some-parse-lock.lock)
-            c.if-found-ne6.false c.if-found-ne0.false c.in-Some-parse-lock.ensures.reads c.if-lock-height.true,
+            ∙ took_lock c.args.pool c.args.len c.args.height.0 (entry_of c.in-Some.found) (left (place_of c.body.new.reader)) (lock_view c.in-Some-parse_lock.lock)
+            c.if-found-ne6.false c.if-found-ne0.false c.in-Some-parse_lock.ensures.reads c.if-lock-height.true,
         n.1,
       );
-      wholes = c.in-Some-parse-lock.ensures.wholes;
+      wholes = c.in-Some-parse_lock.ensures.wholes;
     }

@@ -1,6 +1,6 @@
-use Rattle.std.proofs.Common.{◌≡◌, ◌-◌, length, sym, ap, ◌∙◌, arith, rules}
+use Rattle.std.proofs.Common.{◌≡◌, ◌-◌, sym, ◌∙◌, arith}
 use Rattle.std.proofs.lemmas.List.{get_or_past}
-use Rattle.message.specs.Layout.{count, left}
+use Rattle.message.specs.Layout.{count}
 use Rattle.message.specs.Views.{place_of}
 use Rattle.message.proofs.Reading.{length_entries}
 use Rattle.message.proofs.readers.Reader.remaining.Goals as goal
@@ -16,4 +16,4 @@ pub returns : goal.returns
 returns c =
     let p = place_of c.args.self.now
     in let long = length_entries p.text (count p.text - p.next) p.next p.from
-    in c.saturating-sub.ensures ∙ sym long
+    in c.saturating_sub.ensures ∙ sym long
