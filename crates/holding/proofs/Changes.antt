@@ -6,7 +6,8 @@ use Rattle.base.specs.declared.slips.Slip.{Slip}
 use Rattle.base.specs.declared.stages.Stage.{Stage}
 use Rattle.base.specs.declared.stages.Stage.TheVariants.{Resting, Changing, Locking, Committing, Releasing}
 use Rattle.protocol.specs.Judging.{above_all}
-use Rattle.protocol.specs.Messages.{holding, locked_with}
+use Rattle.protocol.specs.Messages.{holding}
+use Rattle.holding.specs.Locking.{locked_with}
 use Rattle.protocol.specs.Rounds.{is_resting, known, has_place, shelved, locked_at, unlocked, locks_of, with_candidates, with_held}
 use Rattle.protocol.specs.State.{View, Candidate}
 use Rattle.protocol.specs.State as protocol

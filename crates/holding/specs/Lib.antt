@@ -1,3 +1,4 @@
 pub mod Views
 pub mod Outcome
 pub mod Trying
+pub mod Locking

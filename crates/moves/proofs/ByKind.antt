@@ -6,11 +6,11 @@ use Rattle.base.specs.declared.stages.Stage.TheVariants.{Committing}
 use Rattle.message.specs.Contents.{Cert, Locked}
 use Rattle.message.specs.declared.shapes.Head.{Head}
 use Rattle.protocol.specs.Judging.{latest_of, outranks, repeats, round_in, sender_in}
-use Rattle.protocol.specs.Messages.{taken, shelved_page, commit_draft, holding, locked_with, on_change, on_lock, on_release}
+use Rattle.protocol.specs.Messages.{Answer, taken, shelved_page, commit_draft, holding, on_change, on_lock, on_release}
+use Rattle.holding.specs.Locking.{locked_with}
 use Rattle.protocol.specs.Plans.{Plan}
 use Rattle.protocol.specs.Rounds.{called_for, highest_round, is_changing, moved, onward, plainly, recorded, recorded_by, stating, unlocked, with_candidates, with_latest}
 use Rattle.protocol.specs.State.{View, Box}
-use Rattle.protocol.specs.declared.answers.Answer.{Answer}
 use Rattle.seal.specs.Meaning.{Meaning}
 use Rattle.sending.specs.Sending.{Sending}
 use Rattle.holding.specs.Outcome.{Outcome}

@@ -8,9 +8,8 @@ use Rattle.base.specs.declared.stages.Stage.TheVariants.{Resting, Changing, Lock
 use Rattle.holding.specs.Outcome.{Outcome}
 use Rattle.holding.proofs.Endings.{outcome_as, ends_refused}
 use Rattle.protocol.specs.Calls.{judge_offer, judge_begin, judge_tick, time_of, timed_out}
-use Rattle.protocol.specs.declared.answers.Answer.{Answer}
 use Rattle.protocol.specs.Judging.{on_chain}
-use Rattle.protocol.specs.Messages.{taken, unless_bad}
+use Rattle.protocol.specs.Messages.{Answer, taken, unless_bad}
 use Rattle.protocol.specs.Plans.{Plan, unless}
 use Rattle.protocol.specs.Rounds.{is_resting, has_place, shelved, with_candidates, with_ticks, plainly, stating}
 use Rattle.protocol.specs.State.{Box}

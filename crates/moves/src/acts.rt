@@ -1,6 +1,7 @@
 // What a replica does: states a round, enters releasing, takes a lock, a decide, a release.
 ghost use Rattle.holding.specs.Outcome.{Outcome};
 ghost use Rattle.holding.specs.Views.{box_of, view_of};
+ghost use Rattle.protocol.specs.Answering.{answered};
 ghost use Rattle.protocol.specs.Calls.{resending};
 ghost use Rattle.protocol.specs.Messages.{taken};
 ghost use Rattle.protocol.specs.Rounds.{stating, releasing};
@@ -25,7 +26,7 @@ pub(crate) fn state_round<S: Sealer, R: Rulebook>(
     out: &mut [u8],
     fill: &mut Fill,
 ) -> Result<Answer, Refusal>
-    ensures { Outcome (box_of S.Sealer.meaning R.Rulebook.admitted R.Rulebook.ranked core.old) (box_of S.Sealer.meaning R.Rulebook.admitted R.Rulebook.ranked core.new) fill.old.len fill.new.len out.old out.new (Ok (stating (box_of S.Sealer.meaning R.Rulebook.admitted R.Rulebook.ranked core.old) taken (view_of core.old.settings.pool next) round.0)) result }
+    ensures { Outcome (box_of S.Sealer.meaning R.Rulebook.admitted R.Rulebook.ranked core.old) (box_of S.Sealer.meaning R.Rulebook.admitted R.Rulebook.ranked core.new) fill.old.len fill.new.len out.old out.new (Ok (stating (box_of S.Sealer.meaning R.Rulebook.admitted R.Rulebook.ranked core.old) taken (view_of core.old.settings.pool next) round.0)) (answered result) }
 {
     let own = core.sealer.member();
     let page = next.candidates.candidate(&core.rules);
@@ -47,7 +48,7 @@ pub(crate) fn enter_releasing<S: Sealer, R: Rulebook>(
     out: &mut [u8],
     fill: &mut Fill,
 ) -> Result<Answer, Refusal>
-    ensures { Outcome (box_of S.Sealer.meaning R.Rulebook.admitted R.Rulebook.ranked core.old) (box_of S.Sealer.meaning R.Rulebook.admitted R.Rulebook.ranked core.new) fill.old.len fill.new.len out.old out.new (Ok (releasing (box_of S.Sealer.meaning R.Rulebook.admitted R.Rulebook.ranked core.old) taken (view_of core.old.settings.pool next.now))) result }
+    ensures { Outcome (box_of S.Sealer.meaning R.Rulebook.admitted R.Rulebook.ranked core.old) (box_of S.Sealer.meaning R.Rulebook.admitted R.Rulebook.ranked core.new) fill.old.len fill.new.len out.old out.new (Ok (releasing (box_of S.Sealer.meaning R.Rulebook.admitted R.Rulebook.ranked core.old) taken (view_of core.old.settings.pool next.now))) (answered result) }
 {
     if let Some(held) = &next.held {
         let head = Head {
@@ -76,7 +77,7 @@ pub(crate) fn resend<S: Sealer, R: Rulebook>(
     out: &mut [u8],
     fill: &mut Fill,
 ) -> Result<Answer, Refusal>
-    ensures { Outcome (box_of S.Sealer.meaning R.Rulebook.admitted R.Rulebook.ranked core.old) (box_of S.Sealer.meaning R.Rulebook.admitted R.Rulebook.ranked core.new) fill.old.len fill.new.len out.old out.new (Ok (resending (box_of S.Sealer.meaning R.Rulebook.admitted R.Rulebook.ranked core.old))) result }
+    ensures { Outcome (box_of S.Sealer.meaning R.Rulebook.admitted R.Rulebook.ranked core.old) (box_of S.Sealer.meaning R.Rulebook.admitted R.Rulebook.ranked core.new) fill.old.len fill.new.len out.old out.new (Ok (resending (box_of S.Sealer.meaning R.Rulebook.admitted R.Rulebook.ranked core.old))) (answered result) }
 {
     let own = core.sealer.member();
     if let Some(latest) = core.state.latest_of(core.settings.pool, own) {

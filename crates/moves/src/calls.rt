@@ -3,6 +3,7 @@ ghost use Rattle.std.specs.Prelude.{◌≡◌, ◌+◌, [], nat_lt};
 ghost use Rattle.holding.specs.Outcome.{Outcome};
 ghost use Rattle.holding.specs.Views.{box_of};
 ghost use Rattle.moves.specs.Refusing.{is_member, offer_refused, begin_refused, tick_refused};
+ghost use Rattle.protocol.specs.Answering.{answered};
 ghost use Rattle.protocol.specs.Calls.{judge_offer, judge_begin, judge_tick, timed_out};
 
 use crate::acts::{enter_releasing, resend, state_round};
@@ -47,7 +48,7 @@ fn offer_refused<S: Sealer, R: Rulebook>(core: &Core<S, R>, slip: &Slip) -> Opti
 
 // Puts an admitted slip on the chain among the candidates.
 pub fn offer<S: Sealer, R: Rulebook>(core: &mut Core<S, R>, slip: &Slip) -> Result<Answer, Refusal>
-    ensures { Outcome (box_of S.Sealer.meaning R.Rulebook.admitted R.Rulebook.ranked core.old) (box_of S.Sealer.meaning R.Rulebook.admitted R.Rulebook.ranked core.new) 0 0 [] [] (judge_offer (box_of S.Sealer.meaning R.Rulebook.admitted R.Rulebook.ranked core.old) slip.now) result }
+    ensures { Outcome (box_of S.Sealer.meaning R.Rulebook.admitted R.Rulebook.ranked core.old) (box_of S.Sealer.meaning R.Rulebook.admitted R.Rulebook.ranked core.new) 0 0 [] [] (judge_offer (box_of S.Sealer.meaning R.Rulebook.admitted R.Rulebook.ranked core.old) slip.now) (answered result) }
 {
     if let Some(why) = offer_refused(core, slip) {
         return Err(why);
@@ -75,7 +76,7 @@ pub fn begin<S: Sealer, R: Rulebook>(
     out: &mut [u8],
     fill: &mut Fill,
 ) -> Result<Answer, Refusal>
-    ensures { Outcome (box_of S.Sealer.meaning R.Rulebook.admitted R.Rulebook.ranked core.old) (box_of S.Sealer.meaning R.Rulebook.admitted R.Rulebook.ranked core.new) fill.old.len fill.new.len out.old out.new (judge_begin (box_of S.Sealer.meaning R.Rulebook.admitted R.Rulebook.ranked core.old)) result }
+    ensures { Outcome (box_of S.Sealer.meaning R.Rulebook.admitted R.Rulebook.ranked core.old) (box_of S.Sealer.meaning R.Rulebook.admitted R.Rulebook.ranked core.new) fill.old.len fill.new.len out.old out.new (judge_begin (box_of S.Sealer.meaning R.Rulebook.admitted R.Rulebook.ranked core.old)) (answered result) }
 {
     if let Some(why) = begin_refused(core) {
         return Err(why);
@@ -104,7 +105,7 @@ fn time_out<S: Sealer, R: Rulebook>(
     out: &mut [u8],
     fill: &mut Fill,
 ) -> Result<Answer, Refusal>
-    ensures { Outcome (box_of S.Sealer.meaning R.Rulebook.admitted R.Rulebook.ranked core.old) (box_of S.Sealer.meaning R.Rulebook.admitted R.Rulebook.ranked core.new) fill.old.len fill.new.len out.old out.new (timed_out (box_of S.Sealer.meaning R.Rulebook.admitted R.Rulebook.ranked core.old) core.old.state.stage) result }
+    ensures { Outcome (box_of S.Sealer.meaning R.Rulebook.admitted R.Rulebook.ranked core.old) (box_of S.Sealer.meaning R.Rulebook.admitted R.Rulebook.ranked core.new) fill.old.len fill.new.len out.old out.new (timed_out (box_of S.Sealer.meaning R.Rulebook.admitted R.Rulebook.ranked core.old) core.old.state.stage) (answered result) }
 {
     let next = core.state;
     match next.stage {
@@ -138,7 +139,7 @@ pub fn tick<S: Sealer, R: Rulebook>(
     out: &mut [u8],
     fill: &mut Fill,
 ) -> Result<Answer, Refusal>
-    ensures { Outcome (box_of S.Sealer.meaning R.Rulebook.admitted R.Rulebook.ranked core.old) (box_of S.Sealer.meaning R.Rulebook.admitted R.Rulebook.ranked core.new) fill.old.len fill.new.len out.old out.new (judge_tick (box_of S.Sealer.meaning R.Rulebook.admitted R.Rulebook.ranked core.old) ticks) result }
+    ensures { Outcome (box_of S.Sealer.meaning R.Rulebook.admitted R.Rulebook.ranked core.old) (box_of S.Sealer.meaning R.Rulebook.admitted R.Rulebook.ranked core.new) fill.old.len fill.new.len out.old out.new (judge_tick (box_of S.Sealer.meaning R.Rulebook.admitted R.Rulebook.ranked core.old) ticks) (answered result) }
 {
     if let Some(why) = tick_refused(core, ticks) {
         return Err(why);

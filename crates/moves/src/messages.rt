@@ -7,6 +7,7 @@ ghost use Rattle.judging.specs.Views.{sent_of};
 ghost use Rattle.message.specs.Encoding.{kind_in};
 ghost use Rattle.message.specs.RoundTrip.{fields};
 ghost use Rattle.moves.specs.Verdict.{verdict};
+ghost use Rattle.protocol.specs.Answering.{answered};
 ghost use Rattle.protocol.specs.Judging.{round_in};
 ghost use Rattle.protocol.specs.Messages.{judge_message, plan_of};
 
@@ -36,7 +37,7 @@ fn act<S: Sealer, R: Rulebook>(
     requires read { fields core.old.settings.pool S.Checker.seal_long message.now ≡ Some (sent_of m.now) }
     requires passed { verdict (box_of S.Sealer.meaning R.Rulebook.admitted R.Rulebook.ranked core.old) (sent_of m.now) ≡ None }
     requires leads { stage ≡ stage_after core.old.state.stage (kind_in (sent_of m.now).content) (nat_lt core.old.state.round.0 (round_in (sent_of m.now).head)) }
-    ensures { Outcome (box_of S.Sealer.meaning R.Rulebook.admitted R.Rulebook.ranked core.old) (box_of S.Sealer.meaning R.Rulebook.admitted R.Rulebook.ranked core.new) fill.old.len fill.new.len out.old out.new (Ok (plan_of (box_of S.Sealer.meaning R.Rulebook.admitted R.Rulebook.ranked core.old) message.now (sent_of m.now).head (sent_of m.now).content)) result }
+    ensures { Outcome (box_of S.Sealer.meaning R.Rulebook.admitted R.Rulebook.ranked core.old) (box_of S.Sealer.meaning R.Rulebook.admitted R.Rulebook.ranked core.new) fill.old.len fill.new.len out.old out.new (Ok (plan_of (box_of S.Sealer.meaning R.Rulebook.admitted R.Rulebook.ranked core.old) message.now (sent_of m.now).head (sent_of m.now).content)) (answered result) }
 {
     match &m.holds {
         Holds::Change { page, rchg, cand } => {
@@ -63,7 +64,7 @@ pub fn take<S: Sealer, R: Rulebook>(
     out: &mut [u8],
     fill: &mut Fill,
 ) -> Result<Answer, Refusal>
-    ensures { Outcome (box_of S.Sealer.meaning R.Rulebook.admitted R.Rulebook.ranked core.old) (box_of S.Sealer.meaning R.Rulebook.admitted R.Rulebook.ranked core.new) fill.old.len fill.new.len out.old out.new (judge_message (box_of S.Sealer.meaning R.Rulebook.admitted R.Rulebook.ranked core.old) message.now) result }
+    ensures { Outcome (box_of S.Sealer.meaning R.Rulebook.admitted R.Rulebook.ranked core.old) (box_of S.Sealer.meaning R.Rulebook.admitted R.Rulebook.ranked core.new) fill.old.len fill.new.len out.old out.new (judge_message (box_of S.Sealer.meaning R.Rulebook.admitted R.Rulebook.ranked core.old) message.now) (answered result) }
 {
     if !is_member(core) {
         return Err(Refusal::Stranger);

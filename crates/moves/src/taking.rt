@@ -7,6 +7,7 @@ ghost use Rattle.holding.specs.Outcome.{Outcome};
 ghost use Rattle.holding.specs.Views.{box_of, view_of};
 ghost use Rattle.judging.specs.Views.{locked_of};
 ghost use Rattle.message.specs.Contents.{Cert};
+ghost use Rattle.protocol.specs.Answering.{answered};
 ghost use Rattle.protocol.specs.Judging.{latest_of, of_slip, outranks, repeats, round_in, sender_in};
 ghost use Rattle.protocol.specs.Messages.{on_change, on_lock, on_select, on_decide, on_release};
 ghost use Rattle.protocol.specs.Rounds.{has_place};
@@ -40,7 +41,7 @@ pub(crate) fn on_change<S: Sealer, R: Rulebook>(
     fill: &mut Fill,
 ) -> Result<Answer, Refusal>
     requires { repeats (round_in head) page.now (latest_of (view_of core.old.settings.pool core.old.state) (sender_in head)) ≡ false → of_slip (λ s. has_place s (shelf_view core.old.state.candidates)) page.now ≡ true }
-    ensures { Outcome (box_of S.Sealer.meaning R.Rulebook.admitted R.Rulebook.ranked core.old) (box_of S.Sealer.meaning R.Rulebook.admitted R.Rulebook.ranked core.new) fill.old.len fill.new.len out.old out.new (Ok (on_change (box_of S.Sealer.meaning R.Rulebook.admitted R.Rulebook.ranked core.old) head page.now (seal_bytes rchg.now) (seal_bytes cand.now))) result }
+    ensures { Outcome (box_of S.Sealer.meaning R.Rulebook.admitted R.Rulebook.ranked core.old) (box_of S.Sealer.meaning R.Rulebook.admitted R.Rulebook.ranked core.new) fill.old.len fill.new.len out.old out.new (Ok (on_change (box_of S.Sealer.meaning R.Rulebook.admitted R.Rulebook.ranked core.old) head page.now (seal_bytes rchg.now) (seal_bytes cand.now))) (answered result) }
 {
     if core.state.repeated(core.settings.pool, &head, page) {
         return Ok(Answer::Taken);
@@ -79,7 +80,7 @@ pub(crate) fn on_lock<S: Sealer, R: Rulebook>(
     requires short { length message.now ≤ 760 }
     requires place { has_place slip.now (shelf_view core.old.state.candidates) ≡ true }
     requires committing { stage ≡ Committing }
-    ensures { (c : Cert (List ℕ)) → c.slip ≡ slip.now → Outcome (box_of S.Sealer.meaning R.Rulebook.admitted R.Rulebook.ranked core.old) (box_of S.Sealer.meaning R.Rulebook.admitted R.Rulebook.ranked core.new) fill.old.len fill.new.len out.old out.new (Ok (on_lock (box_of S.Sealer.meaning R.Rulebook.admitted R.Rulebook.ranked core.old) message.now head c)) result }
+    ensures { (c : Cert (List ℕ)) → c.slip ≡ slip.now → Outcome (box_of S.Sealer.meaning R.Rulebook.admitted R.Rulebook.ranked core.old) (box_of S.Sealer.meaning R.Rulebook.admitted R.Rulebook.ranked core.new) fill.old.len fill.new.len out.old out.new (Ok (on_lock (box_of S.Sealer.meaning R.Rulebook.admitted R.Rulebook.ranked core.old) message.now head c)) (answered result) }
 {
     let commit = Head {
         sender: core.sealer.member(),
@@ -103,7 +104,7 @@ pub(crate) fn on_select<S: Sealer, R: Rulebook>(
     fill: &mut Fill,
 ) -> Result<Answer, Refusal>
     requires { has_place slip.now (shelf_view core.old.state.candidates) ≡ true }
-    ensures { (c : Cert (List ℕ)) → c.slip ≡ slip.now → Outcome (box_of S.Sealer.meaning R.Rulebook.admitted R.Rulebook.ranked core.old) (box_of S.Sealer.meaning R.Rulebook.admitted R.Rulebook.ranked core.new) fill.old.len fill.new.len out.old out.new (Ok (on_select (box_of S.Sealer.meaning R.Rulebook.admitted R.Rulebook.ranked core.old) head c)) result }
+    ensures { (c : Cert (List ℕ)) → c.slip ≡ slip.now → Outcome (box_of S.Sealer.meaning R.Rulebook.admitted R.Rulebook.ranked core.old) (box_of S.Sealer.meaning R.Rulebook.admitted R.Rulebook.ranked core.new) fill.old.len fill.new.len out.old out.new (Ok (on_select (box_of S.Sealer.meaning R.Rulebook.admitted R.Rulebook.ranked core.old) head c)) (answered result) }
 {
     let mut next = core.state;
     next.select(slip, head.round);
@@ -118,7 +119,7 @@ pub(crate) fn on_decide<S: Sealer, R: Rulebook>(
     fill: &Fill,
 ) -> Result<Answer, Refusal>
     requires { core.old.state.height.0 < last_height }
-    ensures { (c : Cert (List ℕ)) → c.slip ≡ slip.now → Outcome (box_of S.Sealer.meaning R.Rulebook.admitted R.Rulebook.ranked core.old) (box_of S.Sealer.meaning R.Rulebook.admitted R.Rulebook.ranked core.new) fill.now.len fill.now.len out.now out.now (Ok (on_decide (box_of S.Sealer.meaning R.Rulebook.admitted R.Rulebook.ranked core.old) c)) result }
+    ensures { (c : Cert (List ℕ)) → c.slip ≡ slip.now → Outcome (box_of S.Sealer.meaning R.Rulebook.admitted R.Rulebook.ranked core.old) (box_of S.Sealer.meaning R.Rulebook.admitted R.Rulebook.ranked core.new) fill.now.len fill.now.len out.now out.now (Ok (on_decide (box_of S.Sealer.meaning R.Rulebook.admitted R.Rulebook.ranked core.old) c)) (answered result) }
 {
     let height = core.state.height;
     core.state = State::resting(Height(height.0 + 1), slip.own);
@@ -138,7 +139,7 @@ pub(crate) fn on_release<S: Sealer, R: Rulebook>(
 ) -> Result<Answer, Refusal>
     requires short { length lock.now ≤ 760 }
     requires place { outranks (view_of core.old.settings.pool core.old.state) (locked_of inner.now) ≡ true → has_place inner.now.certificate.slip (shelf_view core.old.state.candidates) ≡ true }
-    ensures { Outcome (box_of S.Sealer.meaning R.Rulebook.admitted R.Rulebook.ranked core.old) (box_of S.Sealer.meaning R.Rulebook.admitted R.Rulebook.ranked core.new) fill.now.len fill.now.len out.now out.now (Ok (on_release (box_of S.Sealer.meaning R.Rulebook.admitted R.Rulebook.ranked core.old) lock.now (locked_of inner.now))) result }
+    ensures { Outcome (box_of S.Sealer.meaning R.Rulebook.admitted R.Rulebook.ranked core.old) (box_of S.Sealer.meaning R.Rulebook.admitted R.Rulebook.ranked core.new) fill.now.len fill.now.len out.now out.now (Ok (on_release (box_of S.Sealer.meaning R.Rulebook.admitted R.Rulebook.ranked core.old) lock.now (locked_of inner.now))) (answered result) }
 {
     let round = inner.head.round;
     if core.state.candidates.above_all(round) {

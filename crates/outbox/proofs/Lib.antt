@@ -1,3 +1,4 @@
 pub mod Pieces
 pub mod Outcomes
 pub mod Ballots
+pub mod Lengths

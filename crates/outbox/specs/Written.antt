@@ -1,6 +1,7 @@
 -- What the writers write, by the fields they are given.
-use Rattle.std.specs.Prelude.{ℕ, ◌+◌, Bool, List, [], ◌∷◌, map, length, nat_lt}
+use Rattle.std.specs.Prelude.{ℕ, ◌+◌, Bool, List, [], ◌∷◌, map, length, Some, None, Option, nat_lt}
 use Rattle.base.specs.Seals.{seal_bytes}
+use Rattle.base.specs.Slips.{slip_bytes}
 use Rattle.base.specs.declared.seals.Seal.{Seal}
 use Rattle.base.specs.declared.seals.Vote.{Vote}
 use Rattle.base.specs.declared.slips.Slip.{Slip}
@@ -33,3 +34,8 @@ seals_length (v ∷ vs) = length (seal_bytes v.seal) + seals_length vs
 -- the entries of the votes in the table of contents, and their bodies
 abbrev pub vote_blocks : ℕ → List Vote → List Block
 vote_blocks sort votes = map (vote_block sort) (map signed_by votes)
+
+-- how many bytes the slip of a change takes, with its entry in the table of contents
+abbrev pub slip_length : Option Slip → ℕ
+slip_length None = 0
+slip_length (Some s) = 4 + length (slip_bytes s)

@@ -213,7 +213,7 @@ fn certificate(
     Ok(())
 }
 
-fn seals_len(votes: &[Vote]) -> usize
+pub(crate) fn seals_len(votes: &[Vote]) -> usize
     requires { length votes.now ≤ 253 }
     ensures sum { result ≡ seals_length votes.now }
     ensures small { result ≤ 80 * 253 }
@@ -225,7 +225,7 @@ fn seals_len(votes: &[Vote]) -> usize
     sum
 }
 
-fn add_vote_entries(draft: &mut Draft<'_>, out: &mut [u8], sort: u8, votes: &[Vote])
+pub(crate) fn add_vote_entries(draft: &mut Draft<'_>, out: &mut [u8], sort: u8, votes: &[Vote])
     ensures lent { draft.new.fill.ghost_name ≡ draft.old.fill.ghost_name }
     ensures start { draft.new.start ≡ draft.old.start }
     ensures added { Adds draft.old.fill.now.len draft.new.fill.now.len (table (vote_blocks sort votes.now)) out.old out.new }
@@ -235,7 +235,7 @@ fn add_vote_entries(draft: &mut Draft<'_>, out: &mut [u8], sort: u8, votes: &[Vo
     }
 }
 
-fn add_vote_bodies(draft: &mut Draft<'_>, out: &mut [u8], sort: u8, votes: &[Vote])
+pub(crate) fn add_vote_bodies(draft: &mut Draft<'_>, out: &mut [u8], sort: u8, votes: &[Vote])
     ensures lent { draft.new.fill.ghost_name ≡ draft.old.fill.ghost_name }
     ensures start { draft.new.start ≡ draft.old.start }
     ensures added { Adds draft.old.fill.now.len draft.new.fill.now.len (bodies (vote_blocks sort votes.now)) out.old out.new }

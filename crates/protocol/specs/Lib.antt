@@ -3,6 +3,7 @@ pub mod Plans
 pub mod Rounds
 pub mod Judging
 pub mod Messages
+pub mod Answering
 pub mod Calls
 pub mod Turns
 pub mod Runs

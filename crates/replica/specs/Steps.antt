@@ -6,7 +6,8 @@ use Rattle.holding.specs.Outcome.{Outcome, appended}
 use Rattle.protocol.specs.Calls.{judge_offer, judge_begin, judge_tick}
 use Rattle.protocol.specs.Messages.{judge_message}
 use Rattle.protocol.specs.Plans.{Plan}
-use Rattle.protocol.specs.Runs.{Call, Call.offers, Call.begins, Call.ticks, Call.takes, Call.turns, Call.forwards, Call.counts, Call.closes, Act, step_by}
+use Rattle.protocol.specs.Runs.{Call, Call.offers, Call.begins, Call.ticks, Call.takes, Call.turns, Call.forwards, Call.counts, Call.closes, Act, step_by, settings_by}
+use Rattle.protocol.specs.Witness.{written_by}
 use Rattle.protocol.specs.State.{Box}
 use Rattle.protocol.specs.Turns.{Gathering, Counting, Records, judge_opening, judge_forward, judge_commit, judge_closing}
 use Rattle.sending.specs.Sending.{Good}
@@ -21,10 +22,10 @@ pub record Stepped (b after : Box) (fill : ℕ) (out out' : List ℕ) (call : Ca
   pub seals : List (List ℕ)
   pub good : Good b.sealer (step_by b (acting b call fill out seals) call).sealed seals
   pub accepts : (step_by b (acting b call fill out seals) call).accepted ≡ accepted
-  pub sets : (step_by b (acting b call fill out seals) call).settings ≡ after.settings
+  pub sets : settings_by b.settings call ≡ after.settings
   pub holds : (step_by b (acting b call fill out seals) call).view ≡ after.view
   pub leaves : (step_by b (acting b call fill out seals) call).left ≡ after.sealer.left
-  pub writes : out' ≡ appended fill (step_by b (acting b call fill out seals) call).wrote out
+  pub writes : out' ≡ appended fill (written_by b (acting b call fill out seals) call) out
 
 -- what a call's contract says makes it that step
 abbrev pub IsStep : {X : Type 0} → (Box → Result (Plan X) Refusal) → Call → Type 0

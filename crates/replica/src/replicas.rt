@@ -4,6 +4,7 @@ ghost use Rattle.std.specs.Prelude.{◌≡◌, []};
 ghost use Rattle.holding.specs.Outcome.{Outcome};
 ghost use Rattle.holding.specs.Views.{box_of, rules_by, settings_view};
 ghost use Rattle.moves.specs.Comparing.{compared, handed};
+ghost use Rattle.protocol.specs.Answering.{answered};
 ghost use Rattle.protocol.specs.Calls.{judge_offer, judge_begin, judge_tick};
 ghost use Rattle.protocol.specs.Messages.{judge_message};
 ghost use Rattle.protocol.specs.Runs.{AgreementOfReplicas};
@@ -52,21 +53,21 @@ impl<S: Sealer, R: Rulebook> Replica<S, R> {
 
     // Puts an admitted slip on the chain among the candidates.
     pub fn offer(&mut self, slip: &Slip) -> Result<Answer, Refusal>
-        ensures { Outcome (box_of S.Sealer.meaning R.Rulebook.admitted R.Rulebook.ranked self.old.0) (box_of S.Sealer.meaning R.Rulebook.admitted R.Rulebook.ranked self.new.0) 0 0 [] [] (judge_offer (box_of S.Sealer.meaning R.Rulebook.admitted R.Rulebook.ranked self.old.0) slip.now) result }
+        ensures { Outcome (box_of S.Sealer.meaning R.Rulebook.admitted R.Rulebook.ranked self.old.0) (box_of S.Sealer.meaning R.Rulebook.admitted R.Rulebook.ranked self.new.0) 0 0 [] [] (judge_offer (box_of S.Sealer.meaning R.Rulebook.admitted R.Rulebook.ranked self.old.0) slip.now) (answered result) }
     {
         calls::offer(&mut self.0, slip)
     }
 
     // In resting, states round 0.
     pub fn begin(&mut self, out: &mut [u8], fill: &mut Fill) -> Result<Answer, Refusal>
-        ensures { Outcome (box_of S.Sealer.meaning R.Rulebook.admitted R.Rulebook.ranked self.old.0) (box_of S.Sealer.meaning R.Rulebook.admitted R.Rulebook.ranked self.new.0) fill.old.len fill.new.len out.old out.new (judge_begin (box_of S.Sealer.meaning R.Rulebook.admitted R.Rulebook.ranked self.old.0)) result }
+        ensures { Outcome (box_of S.Sealer.meaning R.Rulebook.admitted R.Rulebook.ranked self.old.0) (box_of S.Sealer.meaning R.Rulebook.admitted R.Rulebook.ranked self.new.0) fill.old.len fill.new.len out.old out.new (judge_begin (box_of S.Sealer.meaning R.Rulebook.admitted R.Rulebook.ranked self.old.0)) (answered result) }
     {
         calls::begin(&mut self.0, out, fill)
     }
 
     // Lets 1 to 60,000 ticks pass.
     pub fn tick(&mut self, ticks: u32, out: &mut [u8], fill: &mut Fill) -> Result<Answer, Refusal>
-        ensures { Outcome (box_of S.Sealer.meaning R.Rulebook.admitted R.Rulebook.ranked self.old.0) (box_of S.Sealer.meaning R.Rulebook.admitted R.Rulebook.ranked self.new.0) fill.old.len fill.new.len out.old out.new (judge_tick (box_of S.Sealer.meaning R.Rulebook.admitted R.Rulebook.ranked self.old.0) ticks) result }
+        ensures { Outcome (box_of S.Sealer.meaning R.Rulebook.admitted R.Rulebook.ranked self.old.0) (box_of S.Sealer.meaning R.Rulebook.admitted R.Rulebook.ranked self.new.0) fill.old.len fill.new.len out.old out.new (judge_tick (box_of S.Sealer.meaning R.Rulebook.admitted R.Rulebook.ranked self.old.0) ticks) (answered result) }
     {
         calls::tick(&mut self.0, ticks, out, fill)
     }
@@ -78,7 +79,7 @@ impl<S: Sealer, R: Rulebook> Replica<S, R> {
         out: &mut [u8],
         fill: &mut Fill,
     ) -> Result<Answer, Refusal>
-        ensures { Outcome (box_of S.Sealer.meaning R.Rulebook.admitted R.Rulebook.ranked self.old.0) (box_of S.Sealer.meaning R.Rulebook.admitted R.Rulebook.ranked self.new.0) fill.old.len fill.new.len out.old out.new (judge_message (box_of S.Sealer.meaning R.Rulebook.admitted R.Rulebook.ranked self.old.0) message.now) result }
+        ensures { Outcome (box_of S.Sealer.meaning R.Rulebook.admitted R.Rulebook.ranked self.old.0) (box_of S.Sealer.meaning R.Rulebook.admitted R.Rulebook.ranked self.new.0) fill.old.len fill.new.len out.old out.new (judge_message (box_of S.Sealer.meaning R.Rulebook.admitted R.Rulebook.ranked self.old.0) message.now) (answered result) }
     {
         messages::take(&mut self.0, message, out, fill)
     }

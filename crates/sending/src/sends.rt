@@ -15,8 +15,10 @@ use base::stages::Kind;
 use base::statements::{Statement, Word};
 use message::shapes::Head;
 use outbox::drafts::{Draft, Fill};
-use outbox::layouts::{lay_certificate, lay_change, lay_commit, lay_release};
-use outbox::writers::{has_room, slip_room, votes_room};
+use outbox::layouts::{
+    lay_certificate, lay_change, lay_commit, lay_release, slip_room, votes_room,
+};
+use outbox::writers::has_room;
 use seal::sealers::Sealer;
 use seal::stating::seal_statement;
 

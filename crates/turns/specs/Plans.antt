@@ -7,12 +7,11 @@ use Rattle.base.specs.declared.refusals.Refusal.{Refusal}
 use Rattle.base.specs.declared.slips.Slip.{Slip}
 use Rattle.base.specs.declared.stages.Kind.TheVariants as kinds
 use Rattle.base.specs.declared.statements.Word.TheVariants as words
-use Rattle.protocol.specs.Messages.{taken}
-use Rattle.protocol.specs.Plans.{Draft, Plan, planned}
+use Rattle.protocol.specs.Messages.{Answer, taken}
+use Rattle.protocol.specs.Plans.{Draft, Plan}
 use Rattle.protocol.specs.Rounds.{of_round, head_for, plainly}
 use Rattle.protocol.specs.State.{View, Box}
 use Rattle.protocol.specs.Turns.{Counting, Records, Forwarded, Committed, noted, names_in, votes_from, cand_of, rchg_of, forward_lock, forward_select, decide_draft}
-use Rattle.protocol.specs.declared.answers.Answer.{Answer}
 use Rattle.sending.specs.Drafts.{cert_for}
 use Rattle.turns.specs.declared.proposing.Proposal.{Proposal}
 use Rattle.turns.specs.declared.proposing.Proposal.TheVariants.{Lock, Select}
@@ -36,7 +35,7 @@ proposed_draft own pool v (Select s) =
 
 -- the turn is closed by a decide
 abbrev pub closing_plan : Box → Counting → Records → Plan Answer
-closing_plan b turn records = planned taken (λ seals. b.view) (Some (decide_draft b turn records))
+closing_plan b turn records = record { answer = taken; next = λ seals. b.view; draft = Some (decide_draft b turn records) }
 
 -- a commit is noted; the replica does not move
 abbrev pub noting_plan : Box → Slip → Records → ℕ → Committed → Plan Records

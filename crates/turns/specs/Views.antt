@@ -1,8 +1,7 @@
 -- What turns and the answers about them stand for.
 use Rattle.std.specs.Prelude.{◌≡◌, Ok, Err, Option, Result}
 use Rattle.base.specs.declared.refusals.Refusal.{Refusal}
-use Rattle.protocol.specs.Messages.{taken}
-use Rattle.protocol.specs.declared.answers.Answer.{Answer}
+use Rattle.protocol.specs.Messages.{Answer, taken}
 use Rattle.protocol.specs.Turns.{Records, Forwarded}
 use Rattle.protocol.specs.Turns as protocol
 use Rattle.std.specs.Option.{option_map}

@@ -1,15 +1,15 @@
 // Taking commits.
-ghost use Rattle.std.specs.Prelude.{◌≡◌, [], Result as Answered, nat_le};
+ghost use Rattle.std.specs.Prelude.{◌≡◌, [], ◌==◌, Result as Answered, nat_le};
 ghost use Rattle.ballots.specs.Views.{committed, records_view};
 ghost use Rattle.base.specs.Slips.{one_page};
 ghost use Rattle.base.specs.declared.refusals.Refusal.TheVariants.{PastHeight, LaterHeight, Stranger, TurnPast, WrongRound, OffChain, NotAdmitted, Contradiction};
 ghost use Rattle.holding.specs.Outcome.{Outcome};
-ghost use Rattle.holding.specs.Views.{box_of, view_of};
+ghost use Rattle.holding.specs.Views.{box_of};
 ghost use Rattle.judging.specs.Views.{sent_of};
 ghost use Rattle.message.specs.Wholes.{Whole};
-ghost use Rattle.protocol.specs.Judging.{height_in, sender_in, familiar, on_chain};
+ghost use Rattle.protocol.specs.Judging.{height_in, round_in, sender_in, familiar, on_chain};
 ghost use Rattle.protocol.specs.Plans.{Plan, unless};
-ghost use Rattle.protocol.specs.Turns.{Records, still_in, round_for_turn, commit_in, judged_commit, judge_commit};
+ghost use Rattle.protocol.specs.Turns.{Records, still_in, commit_in, judged_commit, judge_commit};
 ghost use Rattle.std.specs.Result.{result_and};
 ghost use Rattle.base.specs.declared.refusals.Refusal.{Refusal as Why};
 ghost use Rattle.turns.specs.Plans.{judged_as, noting_plan, Keepable};
@@ -18,15 +18,12 @@ ghost use Rattle.turns.specs.Views.{counting_view, taken_view, KeptUnlessOk};
 use crate::conditions::{is_enough, is_in};
 use crate::phases::Counting;
 use ballots::commits::{Commit, CommitRecord, note};
-use base::counters::{Member, Round};
-use base::pools::Pool;
+use base::counters::Member;
 use base::refusals::Refusal;
 use base::seals::Seal;
 use base::slips::{Slip, one_page};
-use base::stages::Kind;
 use holding::cores::Core;
-use holding::states::State;
-use judging::contents::{kind_of, on_chain};
+use judging::contents::on_chain;
 use judging::sealing::first_bad_seal;
 use judging::speakers::familiar;
 use message::parsing::parse;
@@ -34,23 +31,13 @@ use message::shapes::{Holds, Message};
 use rules::rulebooks::Rulebook;
 use seal::sealers::Sealer;
 
-// Whether a message is of a round that is taken, by its kind: a commit of the turn's, another one as the replica judges it.
-fn is_of_round(state: &State, pool: Pool, round: Round, m: &Message<'_>) -> bool
-    ensures { result ≡ round_for_turn (view_of pool state.now) round.0 (sent_of m.now).head (sent_of m.now).content }
-{
-    match kind_of(m) {
-        Kind::Commit => m.head.round.0 == round.0,
-        _ => state.round_taken(pool, m),
-    }
-}
-
 // Whether a message is of the turn's height and round, from members, while the replica is still in them.
 fn judge_time<S: Sealer, R: Rulebook>(
     core: &Core<S, R>,
     turn: &Counting,
     m: &Message<'_>,
 ) -> Result<(), Refusal>
-    ensures { Whole m.now → (rest : Answered (Plan Records) Why) → result_and result rest ≡ unless (nat_le core.now.state.height.0 (height_in (sent_of m.now).head)) PastHeight (unless (nat_le (height_in (sent_of m.now).head) core.now.state.height.0) LaterHeight (unless (familiar core.now.settings.pool (sent_of m.now)) Stranger (unless (still_in (box_of S.Sealer.meaning R.Rulebook.admitted R.Rulebook.ranked core.now) turn.now.height.0 turn.now.round.0) TurnPast (unless (round_for_turn (view_of core.now.settings.pool core.now.state) turn.now.round.0 (sent_of m.now).head (sent_of m.now).content) WrongRound rest)))) }
+    ensures { Whole m.now → (rest : Answered (Plan Records) Why) → result_and result rest ≡ unless (nat_le core.now.state.height.0 (height_in (sent_of m.now).head)) PastHeight (unless (nat_le (height_in (sent_of m.now).head) core.now.state.height.0) LaterHeight (unless (familiar core.now.settings.pool (sent_of m.now)) Stranger (unless (still_in (box_of S.Sealer.meaning R.Rulebook.admitted R.Rulebook.ranked core.now) turn.now.height.0 turn.now.round.0) TurnPast (unless (round_in (sent_of m.now).head == turn.now.round.0) WrongRound rest)))) }
 {
     let state = &core.state;
     if m.head.height.0 < state.height.0 {
@@ -65,7 +52,7 @@ fn judge_time<S: Sealer, R: Rulebook>(
     if !is_in(state, turn.height, turn.round) {
         return Err(Refusal::TurnPast);
     }
-    if !is_of_round(state, core.settings.pool, turn.round, m) {
+    if m.head.round.0 != turn.round.0 {
         return Err(Refusal::WrongRound);
     }
     Ok(())
