@@ -1,6 +1,6 @@
 -- Words on lists and on members that the pool's rules use.
 use Rattle.std.specs.Prelude.{◌≡◌, ℕ, zero, suc, ◌+◌, Bool, cond, ◌≢◌, ◌⊎◌, List, [], ◌∷◌}
-use Rattle.std.specs.List.{AllByRecursion as All}
+use Rattle.std.specs.List.{AllByRecursion}
 
 -- x is an element of the list
 abbrev pub In : {X : Type 0} → X → List X → Type 0
@@ -10,7 +10,7 @@ In x (y ∷ ys) = (x ≡ y) ⊎ In x ys
 -- no number stands twice in the list
 abbrev pub Distinct : List ℕ → Type 0
 Distinct [] = Unit {0}
-Distinct (x ∷ xs) = All (λ y. x ≢ y) xs × Distinct xs
+Distinct (x ∷ xs) = AllByRecursion (λ y. x ≢ y) xs × Distinct xs
 
 -- how many numbers below n pass the test
 abbrev pub count : (ℕ → Bool) → ℕ → ℕ

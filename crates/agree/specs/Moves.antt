@@ -1,7 +1,7 @@
 -- What one sound member's replica may do, what it is after that, and what the log gains.
 -- The moves allow more than the protocol's rules do; agreement needs no more than what stands here.
 use Rattle.std.specs.Prelude.{◌≡◌, ℕ, suc, ◌<◌, ◌≤◌, Bool, true, false, ◌⊎◌, List, [], ◌∷◌, Some, None, Option}
-use Rattle.std.specs.List.{AllByRecursion as All}
+use Rattle.std.specs.List.{AllByRecursion}
 use Rattle.agree.specs.Lists.{In}
 use Rattle.agree.specs.Pool.{Pool, Event, Event.opened, Event.stated, Event.took, Event.committed, Event.entered, Lock, Replica, Certified, Decided}
 
@@ -24,12 +24,12 @@ pub data Move (P M : Type 0) : Type 0 where
 module _ {P : Type 0} where
   -- `ls` is what is left of the locks `old`: each is one of them, and none of them is of a higher round than all that are left.
   abbrev pub Kept : List (Lock P) → List (Lock P) → Type 0
-  Kept old ls = All (λ l. In l old) ls × All (λ o. (l : Lock P) × In l ls × (o.round ≤ l.round)) old
+  Kept old ls = AllByRecursion (λ l. In l old) ls × AllByRecursion (λ o. (l : Lock P) × In l ls × (o.round ≤ l.round)) old
 
   -- A page is stated only if every lock held is on it; so with no lock any page is.
   abbrev pub Candidate : List (Lock P) → Option P → Type 0
   Candidate ls None = Unit {0}
-  Candidate ls (Some p) = All (λ l. l.page ≡ p) ls
+  Candidate ls (Some p) = AllByRecursion (λ l. l.page ≡ p) ls
 
 module _ {P M : Type 0} where
   -- Round r is yet to be stated: it is above the replica's, or not below it and the replica rests.

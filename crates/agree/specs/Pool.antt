@@ -1,7 +1,7 @@
 -- The pool: its members, what they log, what a replica holds, and what a certificate is.
 -- P is the type of pages, M the type of marks. Heights, rounds and members are numbers here.
 use Rattle.std.specs.Prelude.{◌≡◌, ℕ, ◌+◌, ◌*◌, ◌<◌, ◌≤◌, Bool, true, not, List, length, Some, Option}
-use Rattle.std.specs.List.{AllByRecursion as All}
+use Rattle.std.specs.List.{AllByRecursion}
 use Rattle.agree.specs.Lists.{In, Distinct, count}
 
 -- Of the 3t + 1 members that are numbered from 0, at most t are not sound.
@@ -59,7 +59,7 @@ module _ {P M : Type 0} (pool : Pool P M) where
 
   -- at least k different members of whom Q holds
   abbrev pub Several : ℕ → (ℕ → Type 0) → Type 0
-  Several k Q = (ms : List ℕ) × (k ≤ length ms) × Distinct ms × All (λ i. (i < members) × Q i) ms
+  Several k Q = (ms : List ℕ) × (k ≤ length ms) × Distinct ms × AllByRecursion (λ i. (i < members) × Q i) ms
 
   -- A lock's certificate: a quorum, the sound members of which have stated that page in that round.
   abbrev pub Certified : List (Event P M) → ℕ → ℕ → P → Type 0

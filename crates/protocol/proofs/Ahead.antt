@@ -15,7 +15,7 @@ use Rattle.protocol.specs.Judging.{height_in, round_in, sender_in, familiar, che
 use Rattle.protocol.specs.Messages.{Answer, taken, plan_of, on_change, judged_fields, judge_message, shelved_page}
 use Rattle.protocol.specs.Plans.{Draft, Plan, Done, draft_size, refusing, goes, wears, settled, carried}
 use Rattle.protocol.specs.Rounds.{is_resting, is_changing, is_locking, top_of, has_place, is_ahead, called_for, higher_round, highest_round, quorate, onward, moved, stated, recorded_by, with_latest, with_candidates, with_ticks, plainly}
-use Rattle.protocol.specs.Runs.{Assembly, Call, opens, offers, begins, ticks, takes, turns, forwards, counts, closes, Act, Station, World, box_of, step_by, step_at, station_after, Fitting, played}
+use Rattle.protocol.specs.Runs.{Call, opens, offers, begins, ticks, takes, turns, forwards, counts, closes, Act, Station, World, box_of, step_by, station_after, Fitting, played}
 use Rattle.protocol.specs.State.{Settings, Latest, View, Box, one_page, tally}
 use Rattle.protocol.specs.Subject.{Onward, NeverBack}
 use Rattle.protocol.specs.Turns.{Gathering, Counting, Committed, Records, leads, still_in, enough, select_due, forward_top, forward_by, agreed_of, commits_to, commit_in, judged_commit, judged_turn, judge_opening, judge_forward, judge_commit, judge_closing}

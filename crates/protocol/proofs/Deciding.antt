@@ -63,7 +63,7 @@ module _ (a : Assembly) (start : ℕ → Replica Slip Mark) (w : World) (i : ℕ
             (enters (round_in h) c.slip) (look_at i v) refl
             (refl, cert, chain_parent v.last c.slip passed.chained)
             (look_fresh i (w.stations i).settings.pool (v.height + 1) c.slip.own ∙ (λ t. seen (add-one v.height t) 0 true None [] c.slip.own))
-            (fair_fresh (w.stations i).settings.pool a.pool (v.height + 1) c.slip.own (pool_is a start w i here) (omega (arith, ltb-true v.height last_height passed.goes_on)))
+            (fair_fresh (w.stations i).settings.pool a.pool (v.height + 1) c.slip.own (pool_is a start w i here) (omega (arith, ltb-true v.height last_height passed.book_on)))
             tt refl,
       )
 

@@ -1,12 +1,11 @@
 -- The laws in the words of the subject.
-use Rattle.std.proofs.Common.{◌≡◌, ℕ, ◌+◌, Bool, true, false, cond, leb, List, length, is_ok, Some, None, Ok, Err, Option, Result, sym, refl, ◌∙◌, arith}
+use Rattle.std.proofs.Common.{◌≡◌, ℕ, ◌+◌, Bool, true, false, cond, leb, List, length, is_ok, Some, None, Ok, Err, Option, refl, arith}
 use Rattle.agree.proofs.Reached.{reached_facts, reached_commits}
-use Rattle.base.specs.declared.refusals.Refusal.{Refusal}
 use Rattle.base.specs.declared.refusals.Refusal.TheVariants.{OutboxShort}
 use Rattle.protocol.proofs.Keeping.{look}
 use Rattle.protocol.proofs.Whole.{good_run}
-use Rattle.protocol.specs.Plans.{Plan, Draft, Done, draft_size, refusing, quiet, goes, wears, carried, settled}
-use Rattle.protocol.specs.Runs.{Assembly, Station, Act, as_pool, played}
+use Rattle.protocol.specs.Plans.{Plan, Draft, Done, draft_size, refusing, goes, wears, carried}
+use Rattle.protocol.specs.Runs.{as_pool, played}
 use Rattle.protocol.specs.State.{Box}
 use Rattle.protocol.specs.Subject.{StatesOnce, CommitsOnce, RefusedUnchanged}
 

@@ -1,5 +1,5 @@
 -- Offer, begin and tick.
-use Rattle.std.specs.Prelude.{ℕ, ◌+◌, Bool, cond, ◌&&◌, Some, None, Ok, Err, Option, Result, nat_le, nat_lt}
+use Rattle.std.specs.Prelude.{ℕ, ◌+◌, cond, ◌&&◌, Some, None, Ok, Option, Result, nat_le, nat_lt}
 use Rattle.base.specs.Pools.{last_round}
 use Rattle.base.specs.declared.refusals.Refusal.{Refusal}
 use Rattle.base.specs.declared.refusals.Refusal.TheVariants.{OutOfStage, OffChain, NotAdmitted, CandidatesFull, Unlawful, BooksEnd}
@@ -10,7 +10,7 @@ use Rattle.protocol.specs.Judging.{on_chain, latest_of}
 use Rattle.protocol.specs.Messages.{Answer, taken, of_member}
 use Rattle.protocol.specs.Plans.{Draft, Plan, unless}
 use Rattle.protocol.specs.Rounds.{is_resting, has_place, shelved, change_draft, moved, with_candidates, with_ticks, stating, plainly, releasing}
-use Rattle.protocol.specs.State.{Settings, Latest, View, Box, grown}
+use Rattle.protocol.specs.State.{Settings, Latest, Box, grown}
 
 -- offer: an admitted slip on the chain is shelved
 abbrev pub judge_offer : Box → Slip → Result (Plan Answer) Refusal

@@ -15,8 +15,8 @@ use Rattle.base.specs.declared.statements.Word.TheVariants.{Rchg, Cand, Cmit, Lo
 use Rattle.message.specs.Contents.{Signed, Cert, Locked, Content, change, lock, select, commit, decide, release, Sent}
 use Rattle.message.specs.declared.shapes.Head.{Head}
 use Rattle.protocol.specs.Rounds.{says, is_locking, is_releasing, has_place, locks_of}
-use Rattle.protocol.specs.State.{Candidate, Latest, View, same_page}
-use Rattle.agree.specs.Pool.{Lock as Kept-lock}
+use Rattle.protocol.specs.State.{Latest, View, same_page}
+use Rattle.agree.specs.Pool.{Lock as KeptLock}
 use Rattle.std.specs.Str.{bytes_eq}
 
 abbrev pub height_in : Head → ℕ
@@ -180,7 +180,7 @@ contradicts own v h (decide c) = false
 contradicts own v h (release l inner b) = false
 
 -- a lock's round is above that of every lock held
-abbrev pub above_all : ℕ → List (Kept-lock Slip) → Bool
+abbrev pub above_all : ℕ → List (KeptLock Slip) → Bool
 above_all r [] = true
 above_all r (l ∷ ls) = nat_lt l.round r && above_all r ls
 

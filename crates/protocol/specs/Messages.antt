@@ -1,5 +1,5 @@
 -- Taking a message: judged in the one order of refusals, then the plan of its kind.
-use Rattle.std.specs.Prelude.{ℕ, ◌+◌, Bool, cond, not, ◌&&◌, List, [], ◌∷◌, Some, None, Ok, Err, Option, Result, nat_le, nat_lt}
+use Rattle.std.specs.Prelude.{ℕ, ◌+◌, cond, not, List, [], ◌∷◌, Some, None, Ok, Err, Option, Result, nat_le, nat_lt}
 use Rattle.base.specs.Pools.{members}
 use Rattle.base.specs.declared.refusals.Refusal.{Refusal}
 use Rattle.base.specs.declared.refusals.Refusal.TheVariants.{Misshapen, Stranger, PastHeight, LaterHeight, WrongRound, OutOfStage, OffChain, NotAdmitted, Contradiction, CandidatesFull, BooksEnd}
@@ -14,7 +14,7 @@ use Rattle.message.specs.declared.shapes.Head.{Head}
 use Rattle.protocol.specs.Judging.{height_in, round_in, sender_in, familiar, checks_of, bad_seal, round_taken, stage_takes, slip_in, on_chain, of_slip, repeats, contradicts, latest_of, placed, outranks, above_all, goes_on}
 use Rattle.protocol.specs.Plans.{Draft, Plan, unless}
 use Rattle.protocol.specs.Rounds.{shelved, locked_at, unlocked, locks_of, says, head_for, seal_at, moved, with_candidates, with_held, with_latest, plainly, recorded, releasing}
-use Rattle.protocol.specs.State.{Candidate, Latest, Held, View, Box, fresh}
+use Rattle.protocol.specs.State.{Candidate, Held, View, Box, fresh}
 
 -- what a replica answers: taken, or the height and the page that it entered
 pub data Answer : Type 0 where

@@ -1,5 +1,5 @@
 -- The definitions at examples that can be reckoned by hand.
-use Rattle.std.specs.Prelude.{◌≡◌, ℕ, Bool, true, false, List, [], ◌∷◌, replicate, Some, None, Ok, Err, Option, Result}
+use Rattle.std.specs.Prelude.{◌≡◌, ℕ, true, false, List, [], ◌∷◌, replicate, Some, None, Ok, Err, Option, Result}
 use Rattle.base.specs.Pools.{leader_of}
 use Rattle.base.specs.declared.pools.Pool.{Pool}
 use Rattle.base.specs.declared.pools.Pool.TheVariants.{Four, Seven, Ten}
@@ -18,7 +18,7 @@ use Rattle.rules.specs.Pages.{page, receipts_admits, receipts_above}
 use Rattle.protocol.specs.Messages.{Answer, taken, commit_draft, judge_message}
 use Rattle.protocol.specs.Plans.{Draft, Plan, draft_bytes, draft_size}
 use Rattle.protocol.specs.Rounds.{says, head_for, change_draft, release_draft, recorded}
-use Rattle.protocol.specs.State.{Settings, Candidate, Latest, Held, View, Box}
+use Rattle.protocol.specs.State.{Settings, Candidate, Latest, View, Box}
 use Rattle.protocol.specs.Turns.{Forwarded, cert_draft, judge_forward}
 
 -- two pages on the mark of 32 zeros; receipts ranks the first, of more lots, above the second

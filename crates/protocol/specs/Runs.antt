@@ -1,5 +1,5 @@
 -- Runs of a pool: any list of calls on the replicas of its sound members.
-use Rattle.std.specs.Prelude.{◌≡◌, ℕ, ◌+◌, ◌*◌, ◌<◌, ◌≤◌, Bool, true, false, cond, not, List, [], ◌∷◌, ◌++◌, map, is_ok, Some, None, Option, ◌==◌}
+use Rattle.std.specs.Prelude.{◌≡◌, ℕ, ◌<◌, ◌≤◌, Bool, true, false, cond, not, List, [], ◌∷◌, ◌++◌, map, is_ok, Some, None, Option, ◌==◌}
 use Rattle.agree.specs.Lists.{In, count}
 use Rattle.agree.specs.Pool.{Pool as AbstractPool, Event, Event.opened, Event.stated, Event.took, Event.committed, Event.entered}
 use Rattle.agree.specs.Agreement.{Agreed}
@@ -8,7 +8,6 @@ use Rattle.base.specs.Pools.{members, tolerance}
 use Rattle.base.specs.Slips.{SlipFits}
 use Rattle.base.specs.Statements.{statement_bytes}
 use Rattle.base.specs.declared.pools.Pool.{Pool}
-use Rattle.base.specs.declared.refusals.Refusal.{Refusal}
 use Rattle.base.specs.declared.slips.Mark.{Mark}
 use Rattle.base.specs.declared.slips.Slip.{Slip}
 use Rattle.base.specs.declared.statements.Statement.{Statement}
@@ -17,12 +16,12 @@ use Rattle.base.specs.declared.statements.Word.TheVariants.{Rchg, Cand, Cmit, Lo
 use Rattle.message.specs.Contents.{Content, change, lock, select, commit, decide, release, Sent}
 use Rattle.message.specs.RoundTrip.{fields}
 use Rattle.protocol.specs.Calls.{judge_offer, judge_begin, judge_tick}
-use Rattle.protocol.specs.Judging.{Check, checks_of, recognised, height_in, round_in, outranks}
+use Rattle.protocol.specs.Judging.{Check, checks_of, recognised, round_in, outranks}
 use Rattle.protocol.specs.Messages.{judge_message}
 use Rattle.protocol.specs.Plans.{Done, settled}
 use Rattle.protocol.specs.State.{Settings, View, Rules, Box, settings_lawful, first_view}
 use Rattle.protocol.specs.Turns.{Gathering, Counting, Records, judge_opening, judge_forward, judge_commit, judge_closing}
-use Rattle.std.specs.List.{AllByRecursion as All}
+use Rattle.std.specs.List.{AllByRecursion}
 
 -- A pool: its size, which members are sound, at most t of them not; and for each member what its own checker
 -- recognises, how long its seals are, and its own rulebook. They need not be the same.
@@ -176,7 +175,7 @@ module _ (a : Assembly) where
 
   abbrev pub Vouched : ℕ → List (ℕ × List ℕ) → Option (Sent (List ℕ)) → Type 0
   Vouched i log None = Unit {0}
-  Vouched i log (Some s) = All (λ (k : Check). recognised (a.knows i) k ≡ true → SealedBefore log k) (checks_of s.head s.content)
+  Vouched i log (Some s) = AllByRecursion (λ (k : Check). recognised (a.knows i) k ≡ true → SealedBefore log k) (checks_of s.head s.content)
 
   -- the premise on seals, at an accepted message: every statement in it, the lock inside a release included, in a
   -- sound member's name and under a seal that the checker of the member called recognises, was sealed by that member

@@ -1,10 +1,10 @@
 -- Laws of the calls and of runs, in the words of the subject.
 use Rattle.std.specs.Prelude.{◌≡◌, ℕ, ◌<◌, ◌≤◌, true, false, ◌⊎◌, List, ◌∷◌, is_ok, None, Option, Result}
 use Rattle.agree.specs.Lists.{In}
-use Rattle.agree.specs.Pool.{Event, Event.stated, Event.committed}
+use Rattle.agree.specs.Pool.{Event.stated, Event.committed}
 use Rattle.base.specs.declared.refusals.Refusal.{Refusal}
 use Rattle.base.specs.declared.slips.Slip.{Slip}
-use Rattle.protocol.specs.Plans.{Plan, Done, settled}
+use Rattle.protocol.specs.Plans.{Plan, settled}
 use Rattle.protocol.specs.Runs.{Assembly, Station, Act, played, LawfulRun}
 use Rattle.protocol.specs.State.{View, Box}
 

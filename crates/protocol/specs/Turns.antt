@@ -1,5 +1,5 @@
 -- The leader's turn: opening it, putting forward, taking commits, closing.
-use Rattle.std.specs.Prelude.{ℕ, ◌+◌, Bool, true, false, cond, not, ◌&&◌, ◌||◌, List, [], ◌∷◌, ◌++◌, map, length, take, drop, replicate, Some, None, Ok, Err, Option, Result, ◌==◌, nat_le, slice_index_or, slice_set}
+use Rattle.std.specs.Prelude.{ℕ, ◌+◌, Bool, false, cond, not, ◌&&◌, ◌||◌, List, [], ◌∷◌, ◌++◌, length, take, drop, replicate, Some, None, Ok, Err, Option, Result, ◌==◌, nat_le, slice_index_or, slice_set}
 use Rattle.base.specs.Pools.{members, quorum, leader_of}
 use Rattle.base.specs.declared.refusals.Refusal.{Refusal}
 use Rattle.base.specs.declared.refusals.Refusal.TheVariants.{Misshapen, Stranger, PastHeight, LaterHeight, WrongRound, OutOfStage, OffChain, NotAdmitted, Contradiction, NotYourTurn, NotYet, TurnPast, FewRecords}
@@ -17,7 +17,7 @@ use Rattle.protocol.specs.Judging.{height_in, round_in, sender_in, familiar, che
 use Rattle.protocol.specs.Messages.{Answer, taken, of_member, unless_bad}
 use Rattle.protocol.specs.Plans.{Draft, Plan, unless}
 use Rattle.protocol.specs.Rounds.{is_locking, top_of, of_round, in_round, quorate, says, head_for, seal_at, with_turned, plainly}
-use Rattle.protocol.specs.State.{Latest, View, Box, one_page, tally}
+use Rattle.protocol.specs.State.{Latest, Box, one_page, tally}
 
 -- a gathering turn is of a height and a round; a counting turn is of a page, too
 pub record Gathering : Type 0 where
