@@ -1,9 +1,9 @@
 -- A run that meets every premise, so that the theorem on runs speaks of something.
 -- Four members, of whom member 3 is not sound. It says one thing to one member and another to the next.
-use Rattle.std.specs.Prelude.{◌≡◌, ℕ, Bool, true, false, ◌&&◌, ◌||◌, List, [], ◌∷◌, length, replicate, Some, None, Option, ◌==◌, nat_lt, slice_index}
-use Rattle.std.proofs.Common.{lit≤}
-use Rattle.agree.specs.Lists.{In}
+use Rattle.std.specs.Prelude.{◌≡◌, ℕ, ◌≤◌, Bool, true, false, not, ◌&&◌, ◌||◌, List, [], ◌∷◌, length, replicate, Some, None, Option, ◌==◌, nat_lt, slice_index}
+use Rattle.agree.specs.Lists.{In, count}
 use Rattle.agree.specs.Pool.{Lock, Event, Event.stated, Event.took, Event.committed, Event.entered}
+use Rattle.base.specs.Pools.{members, tolerance}
 use Rattle.base.specs.declared.pools.Pool.TheVariants.{Four}
 use Rattle.base.specs.declared.slips.Mark.{Mark}
 use Rattle.base.specs.declared.slips.Slip.{Slip}
@@ -25,12 +25,20 @@ use Rattle.std.specs.Str.{bytes_eq}
 abbrev pub seal_of : ℕ → List ℕ
 seal_of i = i ∷ []
 
-abbrev pub four : Assembly
-four =
+abbrev pub sound : ℕ → Bool
+sound = λ i. nat_lt i 3
+
+-- no more of them are not sound than a pool of four bears
+abbrev pub FewUnsound : Type 0
+FewUnsound = count (λ i. not (sound i)) (members Four) ≤ tolerance Four
+
+-- the pool, from that fact
+abbrev pub four : FewUnsound → Assembly
+four few =
     record {
       pool = Four;
-      sound = λ i. nat_lt i 3;
-      few = lit≤ tt;
+      sound = sound;
+      few = few;
       knows = λ own signer statement seal. bytes_eq seal (seal_of signer);
       long = λ i. 1;
       rules = λ i. record { admits = λ height s. receipts_admits s; above = receipts_above };
@@ -212,15 +220,15 @@ whole =
     ∷ by 2 0 (counts (counting 2 0 B) no_records (commit_by 0 2 0 B))
     ∷ second_committing
 
-abbrev pub log : List (Event Slip Mark)
-log = (played four unopened whole).events
+abbrev pub log : FewUnsound → List (Event Slip Mark)
+log few = (played (four few) unopened whole).events
 
 -- the locks that a member's replica holds after a part of the run
 abbrev pub on : Slip → ℕ → Lock Slip
 on s r = record { page = s; round = r }
 
-abbrev pub locks_after : List Act → ℕ → List (Lock Slip)
-locks_after run i = locks_of ((played four unopened run).stations i).view.candidates
+abbrev pub locks_after : FewUnsound → List Act → ℕ → List (Lock Slip)
+locks_after few run i = locks_of ((played (four few) unopened run).stations i).view.candidates
 
 -- that the calls go well ------------------------------------------------------------------------------------------------
 
@@ -241,53 +249,54 @@ with_new None ms = ms
 with_new (Some m) ms = m ∷ ms
 
 -- all that the sound members' calls wrote
-abbrev pub written_in : List Act → List (List ℕ)
-written_in [] = []
-written_in (act ∷ run) = with_new (written_by (box_of four act.who ((played four unopened run).stations act.who)) act act.call) (written_in run)
+abbrev pub written_in : FewUnsound → List Act → List (List ℕ)
+written_in few [] = []
+written_in few (act ∷ run) = with_new (written_by (box_of (four few) act.who ((played (four few) unopened run).stations act.who)) act act.call) (written_in few run)
 
 abbrev pub stands : List ℕ → List (List ℕ) → Bool
 stands m [] = false
 stands m (x ∷ xs) = bytes_eq m x || stands m xs
 
 -- a message was written by a call before, or is sent by member 3
-abbrev pub sent_in : List Act → List ℕ → Bool
-sent_in run m = slice_index m 1 == 3 || stands m (written_in run)
+abbrev pub sent_in : FewUnsound → List Act → List ℕ → Bool
+sent_in few run m = slice_index m 1 == 3 || stands m (written_in few run)
 
-abbrev pub hands_on : List Act → Call → Bool
-hands_on run (opens s) = true
-hands_on run (offers s) = true
-hands_on run begins = true
-hands_on run (ticks k) = true
-hands_on run (takes m) = sent_in run m
-hands_on run turns = true
-hands_on run (forwards t rs) = true
-hands_on run (counts t rs m) = sent_in run m
-hands_on run (closes t rs) = true
+abbrev pub hands_on : FewUnsound → List Act → Call → Bool
+hands_on few run (opens s) = true
+hands_on few run (offers s) = true
+hands_on few run begins = true
+hands_on few run (ticks k) = true
+hands_on few run (takes m) = sent_in few run m
+hands_on few run turns = true
+hands_on few run (forwards t rs) = true
+hands_on few run (counts t rs m) = sent_in few run m
+hands_on few run (closes t rs) = true
 
 -- a call that is accepted, for which just as many seals are made as it asks for, and that is handed no other message
-abbrev pub well_at : List Act → Act → Step → Bool
-well_at run act step = step.accepted && (length act.seals == length step.sealed && hands_on run act.call)
+abbrev pub well_at : FewUnsound → List Act → Act → Step → Bool
+well_at few run act step = step.accepted && (length act.seals == length step.sealed && hands_on few run act.call)
 
-abbrev pub goes_well : List Act → Bool
-goes_well [] = true
-goes_well (act ∷ run) = goes_well run && well_at run act (step_at four (played four unopened run) act)
+abbrev pub goes_well : FewUnsound → List Act → Bool
+goes_well few [] = true
+goes_well few (act ∷ run) = goes_well few run && well_at few run act (step_at (four few) (played (four few) unopened run) act)
 
 pub record RunsHappen : Type 0 where
-  pub lawful : LawfulRun four unopened whole
+  pub few : FewUnsound
+  pub lawful : LawfulRun (four few) unopened whole
   -- no call is refused, and each message is one that a call wrote, or is member 3's
-  pub going_well : goes_well whole ≡ true
+  pub going_well : goes_well few whole ≡ true
   -- height 1, round 0: a lock that one member takes, and another out of a release
-  pub disputed : In (stated 2 1 0 None) log
-  pub committed_early : In (committed 0 1 0 A) log
-  pub released : In (took 2 1 0 A) log
+  pub disputed : In (stated 2 1 0 None) (log few)
+  pub committed_early : In (committed 0 1 0 A) (log few)
+  pub released : In (took 2 1 0 A) (log few)
   -- round 1: both of them state the page, and the new lock comes upon the old one
-  pub restated : In (stated 2 1 1 (Some A)) log
-  pub old_locks : (locks_after restating 0 ≡ on A 0 ∷ []) × (locks_after restating 2 ≡ on A 0 ∷ [])
-  pub relocked : In (took 2 1 1 A) log
-  pub new_locks : (locks_after committing 0 ≡ on A 1 ∷ []) × (locks_after committing 2 ≡ on A 1 ∷ [])
+  pub restated : In (stated 2 1 1 (Some A)) (log few)
+  pub old_locks : (locks_after few restating 0 ≡ on A 0 ∷ []) × (locks_after few restating 2 ≡ on A 0 ∷ [])
+  pub relocked : In (took 2 1 1 A) (log few)
+  pub new_locks : (locks_after few committing 0 ≡ on A 1 ∷ []) × (locks_after few committing 2 ≡ on A 1 ∷ [])
   -- both heights end with a page
-  pub entered_first_0 : In (entered 0 1 A) log
-  pub entered_first_1 : In (entered 1 1 A) log
-  pub entered_first_2 : In (entered 2 1 A) log
-  pub entered_second_0 : In (entered 0 2 B) log
-  pub entered_second_1 : In (entered 1 2 B) log
+  pub entered_first_0 : In (entered 0 1 A) (log few)
+  pub entered_first_1 : In (entered 1 1 A) (log few)
+  pub entered_first_2 : In (entered 2 1 A) (log few)
+  pub entered_second_0 : In (entered 0 2 B) (log few)
+  pub entered_second_1 : In (entered 1 2 B) (log few)

@@ -1,7 +1,7 @@
 // The definitions at small examples, and a run that meets every premise of the theorem on runs.
 ghost use Rattle.protocol.specs.Reckoned.{Reckoned};
 ghost use Rattle.protocol.specs.Laws.{WellSealed};
-ghost use Rattle.protocol.specs.Witness.{RunsHappen, four, unopened, whole};
+ghost use Rattle.protocol.specs.Witness.{RunsHappen, FewUnsound, four, unopened, whole};
 
 // Leaders, sizes of messages, a replica that is called to a later round, what a leader puts forward, lots.
 pub fn reckoned()
@@ -16,5 +16,5 @@ pub fn runs_happen()
 
 // In that run each seal has the length of its sealer's, and there is one for each statement that is sealed.
 pub fn runs_are_well_sealed()
-    ensures { WellSealed four unopened whole }
+    ensures { (few : FewUnsound) → WellSealed (four few) unopened whole }
 {}
