@@ -32,18 +32,6 @@ sound = λ i. nat_lt i 3
 abbrev pub FewUnsound : Type 0
 FewUnsound = count (λ i. not (sound i)) (members Four) ≤ tolerance Four
 
--- the pool, from that fact
-abbrev pub four : FewUnsound → Assembly
-four few =
-    record {
-      pool = Four;
-      sound = sound;
-      few = few;
-      knows = λ own signer statement seal. bytes_eq seal (seal_of signer);
-      long = λ i. 1;
-      rules = λ i. record { admits = λ height s. receipts_admits s; above = receipts_above };
-    }
-
 -- page A stands on the start mark, page B on page A
 abbrev pub A : Slip
 A = page 0 1 7 0
@@ -220,17 +208,9 @@ whole =
     ∷ by 2 0 (counts (counting 2 0 B) no_records (commit_by 0 2 0 B))
     ∷ second_committing
 
-abbrev pub log : FewUnsound → List (Event Slip Mark)
-log few = (played (four few) unopened whole).events
-
--- the locks that a member's replica holds after a part of the run
+-- a lock
 abbrev pub on : Slip → ℕ → Lock Slip
 on s r = record { page = s; round = r }
-
-abbrev pub locks_after : FewUnsound → List Act → ℕ → List (Lock Slip)
-locks_after few run i = locks_of ((played (four few) unopened run).stations i).view.candidates
-
--- that the calls go well ------------------------------------------------------------------------------------------------
 
 -- the message that a call writes, if any
 abbrev pub written_by : Box → Act → Call → Option (List ℕ)
@@ -248,37 +228,60 @@ abbrev pub with_new : Option (List ℕ) → List (List ℕ) → List (List ℕ)
 with_new None ms = ms
 with_new (Some m) ms = m ∷ ms
 
--- all that the sound members' calls wrote
-abbrev pub written_in : FewUnsound → List Act → List (List ℕ)
-written_in few [] = []
-written_in few (act ∷ run) = with_new (written_by (box_of (four few) act.who ((played (four few) unopened run).stations act.who)) act act.call) (written_in few run)
-
 abbrev pub stands : List ℕ → List (List ℕ) → Bool
 stands m [] = false
 stands m (x ∷ xs) = bytes_eq m x || stands m xs
 
--- a message was written by a call before, or is sent by member 3
-abbrev pub sent_in : FewUnsound → List Act → List ℕ → Bool
-sent_in few run m = slice_index m 1 == 3 || stands m (written_in few run)
+-- what the run does in the pool, and that its calls go well ---------------------------------------------------------------
 
-abbrev pub hands_on : FewUnsound → List Act → Call → Bool
-hands_on few run (opens s) = true
-hands_on few run (offers s) = true
-hands_on few run begins = true
-hands_on few run (ticks k) = true
-hands_on few run (takes m) = sent_in few run m
-hands_on few run turns = true
-hands_on few run (forwards t rs) = true
-hands_on few run (counts t rs m) = sent_in few run m
-hands_on few run (closes t rs) = true
+-- from the fact that few of its members are not sound
+module _ (few : FewUnsound) where
+  -- the pool
+  abbrev pub four : Assembly
+  four =
+      record {
+        pool = Four;
+        sound = sound;
+        few = few;
+        knows = λ own signer statement seal. bytes_eq seal (seal_of signer);
+        long = λ i. 1;
+        rules = λ i. record { admits = λ height s. receipts_admits s; above = receipts_above };
+      }
 
--- a call that is accepted, for which just as many seals are made as it asks for, and that is handed no other message
-abbrev pub well_at : FewUnsound → List Act → Act → Step → Bool
-well_at few run act step = step.accepted && (length act.seals == length step.sealed && hands_on few run act.call)
+  abbrev pub log : List (Event Slip Mark)
+  log = (played four unopened whole).events
 
-abbrev pub goes_well : FewUnsound → List Act → Bool
-goes_well few [] = true
-goes_well few (act ∷ run) = goes_well few run && well_at few run act (step_at (four few) (played (four few) unopened run) act)
+  -- the locks that a member's replica holds after a part of the run
+  abbrev pub locks_after : List Act → ℕ → List (Lock Slip)
+  locks_after run i = locks_of ((played four unopened run).stations i).view.candidates
+
+  -- all that the sound members' calls wrote
+  abbrev pub written_in : List Act → List (List ℕ)
+  written_in [] = []
+  written_in (act ∷ run) = with_new (written_by (box_of four act.who ((played four unopened run).stations act.who)) act act.call) (written_in run)
+
+  -- a message was written by a call before, or is sent by member 3
+  abbrev pub sent_in : List Act → List ℕ → Bool
+  sent_in run m = slice_index m 1 == 3 || stands m (written_in run)
+
+  abbrev pub hands_on : List Act → Call → Bool
+  hands_on run (opens s) = true
+  hands_on run (offers s) = true
+  hands_on run begins = true
+  hands_on run (ticks k) = true
+  hands_on run (takes m) = sent_in run m
+  hands_on run turns = true
+  hands_on run (forwards t rs) = true
+  hands_on run (counts t rs m) = sent_in run m
+  hands_on run (closes t rs) = true
+
+  -- a call that is accepted, for which just as many seals are made as it asks for, and that is handed no other message
+  abbrev pub well_at : List Act → Act → Step → Bool
+  well_at run act step = step.accepted && (length act.seals == length step.sealed && hands_on run act.call)
+
+  abbrev pub goes_well : List Act → Bool
+  goes_well [] = true
+  goes_well (act ∷ run) = goes_well run && well_at run act (step_at four (played four unopened run) act)
 
 pub record RunsHappen : Type 0 where
   pub few : FewUnsound
