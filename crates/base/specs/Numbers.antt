@@ -1,6 +1,6 @@
 -- Numbers as bytes: unsigned, the most significant byte first.
 use Rattle.std.specs.Prelude.{ℕ, ◌+◌, ◌*◌, ◌/◌, ◌%◌, ◌<◌, Bool, true, ◌&&◌, List, [], ◌∷◌, ◌==◌, slice_index}
-use Rattle.std.specs.List.{AllByRecursion as All}
+use Rattle.std.specs.List.{AllByRecursion}
 
 -- the two bytes of n
 abbrev pub be2 : ℕ → List ℕ
@@ -25,4 +25,4 @@ all_zero (b ∷ bs) = b == 0 && all_zero bs
 
 -- every element is a byte
 abbrev pub Bytes : List ℕ → Type 0
-Bytes m = All (λ b. b < 256) m
+Bytes m = AllByRecursion (λ b. b < 256) m

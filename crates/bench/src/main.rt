@@ -1,5 +1,6 @@
 // Timings, told only where an argument asks for them, so that what is written without one is always the same.
 #![tactic(auto)]
+
 use seal::siphash::siphash_after;
 use std::time::Instant;
 use std::{env, io};

@@ -1,5 +1,6 @@
 // Seals: who recognises them, who makes them, and the two kinds that are delivered.
 #![tactic(auto)]
+
 pub mod keys;
 pub mod ring;
 pub mod row;

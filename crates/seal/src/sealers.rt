@@ -11,7 +11,7 @@ pub trait Checker {
     ghost recognised: { Self → ℕ → List ℕ → List ℕ → Bool };
 
     // how many bytes a seal of this kind has
-    ghost sealLong: { ℕ };
+    ghost seal_long: { ℕ };
 
     fn seal_length() -> usize
         ensures { result ≡ seal_long };

@@ -1,5 +1,6 @@
 // Runs the published table of SipHash-2-4: the messages 00 .. of 0 to 63 bytes under the key 00 .. 0f.
 #![tactic(auto)]
+
 use seal::siphash::{siphash, siphash_after, worked_example};
 use std::io;
 

@@ -18,7 +18,7 @@ loop-i-preserved c =
     in let t = tag_of (key_of keys i) own st
     in let long = length_tags keys own st i
     in let tag = length_tag keys i own st
-    in put_next 0 (8 * i) T t t out c.loop-i.out c.put-tag.new.out c.loop-i.invariant refl (omega arith) (omega arith) (λ _. c.put-tag.ensures)
+    in put_next 0 (8 * i) T t t out c.loop-i.out c.put_tag.new.out c.loop-i.invariant refl (omega arith) (omega arith) (λ _. c.put_tag.ensures)
     ∙ ap (λ k. wrote 0 (tags_below k keys own st) out) (sym (add-one i))
 
 pub returns : goal.returns

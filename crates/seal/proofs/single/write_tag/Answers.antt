@@ -14,7 +14,7 @@ returns c =
     in let own = s.own.0
     in let seal = single_seal s.keys own st
     in let long = length_tag s.keys own own st
-    in let is : c.put-tag.new.out ≡ wrote 0 seal out = c.put-tag.ensures
+    in let is : c.put_tag.new.out ≡ wrote 0 seal out = c.put_tag.ensures
     in record {
       bytes = is;
       sound = ap (single_knows s.keys own st) (front_wrote 8 out seal _ (omega arith) long is) ∙ singles_pass s.keys own st s.known;

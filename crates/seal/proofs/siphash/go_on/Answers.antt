@@ -5,8 +5,8 @@ use Rattle.seal.proofs.Little.{below_bytes}
 use Rattle.seal.proofs.Absorbing.{absorb_more}
 use Rattle.seal.proofs.siphash.go_on.Goals as goal
 
-pub overflow-add-last : goal.overflow-add-last
-overflow-add-last c =
+pub overflow_add-last : goal.overflow_add-last
+overflow_add-last c =
     let m = c.args.rest.now
     in let few : length (take (length m - 8 * (length m / 8)) (drop (8 * (length m / 8)) m)) < 8 = simp (length-take, length-drop) (omega arith)
     in let small = below_bytes c.tail.result _ 7 c.tail.ensures.small (omega (arith, few))
@@ -18,7 +18,7 @@ loop-i-preserved c =
     in let n = length m / 8
     in let i = c.loop-i.i
     in let s = c.loop-i.s
-    in ap (λ t. absorb (n - (i + 1)) t (drop (8 * (i + 1)) m)) (c.take-in-s.ensures ∙ ap (compress s) c.word-at.ensures)
+    in ap (λ t. absorb (n - (i + 1)) t (drop (8 * (i + 1)) m)) (c.take_in-s.ensures ∙ ap (compress s) c.word_at.ensures)
     ∙ sym (absorb_more n i s m c.loop-i-test.true) ∙ c.loop-i.invariant
 
 pub returns : goal.returns
@@ -31,4 +31,4 @@ returns c =
     in let none : n - i ≡ 0 = omega arith
     in let all : s ≡ absorb n c.args.state m = sym (ap (λ k. absorb k s (drop (8 * i) m)) none) ∙ c.loop-i.invariant
     in let last : c.tail.result + c.args.total % 256 * 2 ^ 56 ≡ last_word m c.args.total = ap (λ x. x + c.args.total % 256 * 2 ^ 56) (c.tail.ensures.said ∙ ap little (between_to_end m (8 * n) (length m) (omega arith)))
-    in c.close.ensures ∙ ap finish c.take-in.ensures ∙ (λ j. finish (compress (all j) (last j)))
+    in c.close.ensures ∙ ap finish c.take_in.ensures ∙ (λ j. finish (compress (all j) (last j)))

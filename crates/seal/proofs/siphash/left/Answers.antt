@@ -10,4 +10,4 @@ returns c =
     in let k = c.args.k
     in let e : k % 64 ≡ k = omega arith
     in let f : (64 - k % 64) % 64 ≡ 64 - k = omega arith
-    in c.rotate-left.ensures ∙ (λ i. bit_or ((x * 2 ^ e i) % 2 ^ 64) (x / 2 ^ f i))
+    in c.rotate_left.ensures ∙ (λ i. bit_or ((x * 2 ^ e i) % 2 ^ 64) (x / 2 ^ f i))

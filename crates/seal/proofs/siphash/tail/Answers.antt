@@ -10,15 +10,15 @@ loop-i-init c =
     in let z : length bs - length bs ≡ 0 = omega arith
     in (sym (ap little (drop_all (length bs) bs (omega arith))), rw z (omega arith))
 
-pub overflow-mul-said : goal.overflow-mul-said
-overflow-mul-said c =
+pub overflow_mul-said : goal.overflow_mul-said
+overflow_mul-said c =
     let small : c.loop-i.said < 2 ^ 56 = below_bytes c.loop-i.said _ 7 c.loop-i.invariant.1 (omega arith)
     in omega arith
 
-pub overflow-add-said : goal.overflow-add-said
-overflow-add-said c =
+pub overflow_add-said : goal.overflow_add-said
+overflow_add-said c =
     let small : c.loop-i.said < 2 ^ 56 = below_bytes c.loop-i.said _ 7 c.loop-i.invariant.1 (omega arith)
-    in omega (arith, c.type-inv.bytes (c.loop-i.i - 1))
+    in omega (arith, c.type_inv.bytes (c.loop-i.i - 1))
 
 pub loop-i-preserved : goal.loop-i-preserved
 loop-i-preserved c =
@@ -28,7 +28,7 @@ loop-i-preserved c =
     in let back : i - 1 + 1 ≡ i = omega arith
     in let e = little_more bs (i - 1) (omega arith)
     in let was : little (drop (i - 1 + 1) bs) ≡ x = ap (λ k. little (drop k bs)) back ∙ sym c.loop-i.invariant.0
-    in let small : get_or bs (i - 1) 0 < 256 = omega (arith, c.type-inv.bytes (i - 1))
+    in let small : get_or bs (i - 1) 0 < 256 = omega (arith, c.type_inv.bytes (i - 1))
     in let more = below_more x (get_or bs (i - 1) 0) (length bs - i) c.loop-i.invariant.1 small
     in let long : length bs - i + 1 ≡ length bs - (i - 1) = omega arith
     in (omega (arith, e, was), rw long at more)

@@ -3,4 +3,4 @@ use Rattle.seal.proofs.Little.{eight}
 use Rattle.seal.proofs.siphash.word_at.Goals as goal
 
 pub returns : goal.returns
-returns c = c.from-le-bytes.ensures ∙ sym (eight c.args.bytes.now c.args.at c.requires)
+returns c = c.from_le_bytes.ensures ∙ sym (eight c.args.bytes.now c.args.at c.requires)

@@ -7,6 +7,6 @@ pub returns : goal.returns
 unfolding eight_bytes
 returns c =
     record {
-      bytes = c.to-le-bytes.ensures;
-      len = ap length c.to-le-bytes.ensures ∙ length_eight_bytes c.args.word;
+      bytes = c.to_le_bytes.ensures;
+      len = ap length c.to_le_bytes.ensures ∙ length_eight_bytes c.args.word;
     }
