@@ -13,6 +13,7 @@ use message::shapes::{Certificate, Head, Holds};
 use outbox::drafts::{Draft, Fill};
 use outbox::writers::{write_change, write_commit, write_lock, write_release};
 use std::process::Abort;
+use std::test::Fail;
 
 const KINDS: [Kind; 6] = [
     Kind::Change,
@@ -348,7 +349,7 @@ fn drafts(rt: HostRuntime) {
     draft.add(&mut out, b"too long for it");
     draft.finish();
     assert_eq!(rt; fill.len, 9);
-    assert!(rt; taken(&rt, &out, 10) == b"\0\0\0\0\0kept\0");
+    assert!(rt; taken(&rt, &out, 10) == b"\0\0\0\0\0kept\0".as_slice());
 }
 
 // Of two locks the one of the higher round, the kept one on equal rounds; 1 where either is no lock.

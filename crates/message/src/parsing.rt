@@ -19,6 +19,7 @@ use base::stages::Kind;
 use base::writing::four_at;
 
 // The next body, by what is left after it.
+#[tactic(auto, using(crate::proofs::Reading::nexted))]
 pub fn body<'a>(reader: &mut Reader<'a>) -> Option<Body<'a>>
     ensures { Nexted (place_of reader.old) (place_of reader.new) (option_map entry_of result) }
 {
