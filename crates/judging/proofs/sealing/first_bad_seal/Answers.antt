@@ -13,10 +13,6 @@ pub returns-in-Select : goal.returns-in-Select
 returns-in-Select g c =
     at_holds (g.C.Checker.recognised c.args.checker.now) c.args.m.now.head c.args.m.now.holds _ c.bad_select.result c.in-Select.is c.bad_select.ensures
 
-pub returns-in-Commit : goal.returns-in-Commit
-returns-in-Commit g c =
-    at_holds (g.C.Checker.recognised c.args.checker.now) c.args.m.now.head c.args.m.now.holds _ c.bad_own.result c.in-Commit.is (λ w. c.bad_own.ensures)
-
 pub returns-in-Decide : goal.returns-in-Decide
 returns-in-Decide g c =
     at_holds (g.C.Checker.recognised c.args.checker.now) c.args.m.now.head c.args.m.now.holds _ c.bad_decide.result c.in-Decide.is c.bad_decide.ensures
