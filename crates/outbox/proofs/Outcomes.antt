@@ -3,7 +3,7 @@ use Rattle.std.proofs.Common.{◌≡◌, ℕ, ◌+◌, ◌≤◌, Bool, true, fa
 use Rattle.std.proofs.lemmas.Bool.Decides.{nat_tests}
 use Rattle.base.specs.Writing.{wrote}
 use Rattle.base.specs.declared.refusals.Refusal.TheVariants.{Misshapen, OutboxShort}
-use Rattle.outbox.specs.Appending.{fits, appends, Appended, Adds}
+use Rattle.outbox.specs.Appending.{fits, Appended, Adds}
 use Rattle.base.specs.declared.refusals.Refusal.{Refusal}
 
 module _ (lays : Bool) (bytes : List ℕ) (f need : ℕ) (out : List ℕ) (lay : lays ≡ true) (long : need ≡ length bytes) where

@@ -1,4 +1,4 @@
-use Rattle.std.proofs.Common.{◌≡◌, refl, ap, ◌∙◌}
+use Rattle.std.proofs.Common.{refl, ap, ◌∙◌}
 use Rattle.std.proofs.lemmas.List.{take_all}
 use Rattle.message.specs.Encoding.{bodies}
 use Rattle.outbox.specs.Written.{vote_blocks}
@@ -16,7 +16,7 @@ loop-vote-preserved c =
       c.add.ensures.lent ∙ v.0,
       (
         c.add.ensures.start ∙ v.1.0,
-        adds_as _ (bodies_more c.args.sort c.args.votes.now c.loop-vote.vote-index c.loop-vote-test.true _ c.as-slice.ensures.bytes)
+        adds_as _ (bodies_more c.args.sort c.args.votes.now c.loop-vote.vote-index c.loop-vote-test.true _ c.as_slice.ensures.bytes)
             (adds_then v.1.1 c.add.ensures.added),
       ),
     )

@@ -1,4 +1,4 @@
-use Rattle.std.proofs.Common.{◌≡◌, length, refl, ap, ◌∙◌}
+use Rattle.std.proofs.Common.{length, refl, ap, ◌∙◌}
 use Rattle.std.proofs.lemmas.List.{take_all}
 use Rattle.message.specs.Encoding.{table}
 use Rattle.outbox.specs.Written.{vote_blocks}
@@ -13,11 +13,11 @@ pub loop-vote-preserved : goal.loop-vote-preserved
 loop-vote-preserved c =
     let v = c.loop-vote.invariant
     in (
-      c.add-entry.ensures.lent ∙ v.0,
+      c.add_entry.ensures.lent ∙ v.0,
       (
-        c.add-entry.ensures.start ∙ v.1.0,
-        adds_as _ (table_more c.args.sort c.args.votes.now c.loop-vote.vote-index c.loop-vote-test.true _ (ap length c.as-slice.ensures.bytes))
-            (adds_then v.1.1 c.add-entry.ensures.added),
+        c.add_entry.ensures.start ∙ v.1.0,
+        adds_as _ (table_more c.args.sort c.args.votes.now c.loop-vote.vote-index c.loop-vote-test.true _ (ap length c.as_slice.ensures.bytes))
+            (adds_then v.1.1 c.add_entry.ensures.added),
       ),
     )
 

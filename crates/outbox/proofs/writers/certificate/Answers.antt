@@ -1,4 +1,4 @@
-use Rattle.std.proofs.Common.{◌≡◌, ℕ, ◌+◌, ◌*◌, true, List, [], ◌∷◌, ◌++◌, length, sym, refl, ap, ◌∙◌, arith, rules}
+use Rattle.std.proofs.Common.{◌≡◌, ℕ, ◌+◌, ◌*◌, true, List, ◌∷◌, ◌++◌, length, refl, ap, arith, rules}
 use Rattle.std.proofs.lemmas.Bool.Decides.{nat_tests}
 use Rattle.base.specs.Kinds.{kind_number}
 use Rattle.base.specs.Numbers.{be2}
@@ -32,20 +32,20 @@ module _ (kind sort : ℕ) (h : Head) (s : Slip) (seal : Seal) (vs : List Vote) 
       let all : count ≡ length (cert_blocks sort h (cert_with s seal vs)) = let k = length_votes sort vs in omega arith
       in λ i. header kind h (all i) ++ ((1 ∷ 0 ∷ be2 (is i)) ++ ((5 ∷ h.sender.0 ∷ be2 (length (same i))) ++ (table (vote_blocks sort vs) ++ (slip_bytes s ++ (same i ++ bodies (vote_blocks sort vs))))))
 
-pub returns-then-not-has-room : goal.returns-then-not-has-room
-returns-then-not-has-room c =
+pub returns-then-not-has_room : goal.returns-then-not-has_room
+returns-then-not-has_room c =
     let lay : countable c.args.votes.now ≡ true = grind (arith, nat_tests)
     in too_short (countable c.args.votes.now) _ _ _ _ lay
-    (long (kind_number c.args.kind) c.args.sort c.args.head c.args.slip.now c.args.own.now c.args.votes.now c.as-slice-own.result.now c.as-slice-own.ensures.bytes c.size.result c.seals-len.result c.size.ensures.size c.seals-len.ensures.sum)
-    c.if-not-has-room.ensures
+    (long (kind_number c.args.kind) c.args.sort c.args.head c.args.slip.now c.args.own.now c.args.votes.now c.as_slice-own.result.now c.as_slice-own.ensures.bytes c.size.result c.seals_len.result c.size.ensures.size c.seals_len.ensures.sum)
+    c.if-not-has_room.ensures
 
 pub returns : goal.returns
 returns c =
     let lay : countable c.args.votes.now ≡ true = grind (arith, nat_tests)
     in all_written (countable c.args.votes.now) _ _ _ _ lay
-    (long (kind_number c.args.kind) c.args.sort c.args.head c.args.slip.now c.args.own.now c.args.votes.now c.as-slice-own.result.now c.as-slice-own.ensures.bytes c.size.result c.seals-len.result c.size.ensures.size c.seals-len.ensures.sum)
-    _ c.add-vote-bodies.new.draft.fill.now.len _ _ _
-    (pieces (kind_number c.args.kind) c.args.sort c.args.head c.args.slip.now c.args.own.now c.args.votes.now c.as-slice-own.result.now c.as-slice-own.ensures.bytes c.size-2.result _ c.size-2.ensures.size refl)
-    c.if-not-has-room.ensures c.begin-draft.ensures.now (search rules)
-    (adds_then c.add-header.ensures.added (adds_then c.add-entry.ensures.added (adds_then c.add-entry-2.ensures.added (adds_then c.add-vote-entries.ensures.added
-    (adds_then c.add-slip.ensures.added (adds_then c.add.ensures.added c.add-vote-bodies.ensures.added))))))
+    (long (kind_number c.args.kind) c.args.sort c.args.head c.args.slip.now c.args.own.now c.args.votes.now c.as_slice-own.result.now c.as_slice-own.ensures.bytes c.size.result c.seals_len.result c.size.ensures.size c.seals_len.ensures.sum)
+    _ c.add_vote_bodies.new.draft.fill.now.len _ _ _
+    (pieces (kind_number c.args.kind) c.args.sort c.args.head c.args.slip.now c.args.own.now c.args.votes.now c.as_slice-own.result.now c.as_slice-own.ensures.bytes c.size-2.result _ c.size-2.ensures.size refl)
+    c.if-not-has_room.ensures c.begin-draft.ensures.now (search rules)
+    (adds_then c.add_header.ensures.added (adds_then c.add_entry.ensures.added (adds_then c.add_entry-2.ensures.added (adds_then c.add_vote_entries.ensures.added
+    (adds_then c.add_slip.ensures.added (adds_then c.add.ensures.added c.add_vote_bodies.ensures.added))))))

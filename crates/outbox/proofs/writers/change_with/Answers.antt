@@ -1,4 +1,4 @@
-use Rattle.std.proofs.Common.{◌≡◌, ℕ, ◌+◌, true, List, [], ◌∷◌, ◌++◌, length, Some, sym, refl, ap, ◌∙◌, arith, rules}
+use Rattle.std.proofs.Common.{◌≡◌, ℕ, ◌+◌, true, List, ◌∷◌, ◌++◌, length, Some, sym, refl, arith, rules}
 use Rattle.std.proofs.lemmas.List.{append-nil}
 use Rattle.base.specs.Numbers.{be2}
 use Rattle.base.specs.Slips.{slip_bytes}
@@ -21,15 +21,15 @@ module _ (h : Head) (s : Slip) (a b : List ℕ) (n : ℕ) (is : n ≡ length (sl
   pieces : header 1 h 3 ++ ((1 ∷ 0 ∷ be2 n) ++ ((2 ∷ h.sender.0 ∷ be2 (length a)) ++ ((3 ∷ h.sender.0 ∷ be2 (length b)) ++ (slip_bytes s ++ (a ++ b))))) ≡ encoded (sent h (change (Some s) a b))
   pieces = λ i. header 1 h 3 ++ ((1 ∷ 0 ∷ be2 (is i)) ++ ((2 ∷ h.sender.0 ∷ be2 (length a)) ++ ((3 ∷ h.sender.0 ∷ be2 (length b)) ++ (slip_bytes s ++ (a ++ sym (append-nil b) i)))))
 
-pub returns-then-not-has-room : goal.returns-then-not-has-room
-returns-then-not-has-room c =
-    too_short true _ _ _ _ refl (long c.args.head c.args.slip.now c.args.rchg.now c.args.cand.now c.size.result c.size.ensures.size) c.if-not-has-room.ensures
+pub returns-then-not-has_room : goal.returns-then-not-has_room
+returns-then-not-has_room c =
+    too_short true _ _ _ _ refl (long c.args.head c.args.slip.now c.args.rchg.now c.args.cand.now c.size.result c.size.ensures.size) c.if-not-has_room.ensures
 
 pub returns : goal.returns
 returns c =
     all_written true _ _ _ _ refl (long c.args.head c.args.slip.now c.args.rchg.now c.args.cand.now c.size.result c.size.ensures.size)
     _ c.add-2.new.self.fill.now.len _ _ _
     (pieces c.args.head c.args.slip.now c.args.rchg.now c.args.cand.now c.size-2.result c.size-2.ensures.size)
-    c.if-not-has-room.ensures c.begin-draft.ensures.now (search rules)
-    (adds_then c.add-header.ensures.added (adds_then c.add-entry.ensures.added (adds_then c.add-entry-2.ensures.added (adds_then c.add-entry-3.ensures.added
-    (adds_then c.add-slip.ensures.added (adds_then c.add.ensures.added c.add-2.ensures.added))))))
+    c.if-not-has_room.ensures c.begin-draft.ensures.now (search rules)
+    (adds_then c.add_header.ensures.added (adds_then c.add_entry.ensures.added (adds_then c.add_entry-2.ensures.added (adds_then c.add_entry-3.ensures.added
+    (adds_then c.add_slip.ensures.added (adds_then c.add.ensures.added c.add-2.ensures.added))))))

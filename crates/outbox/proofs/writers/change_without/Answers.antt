@@ -1,4 +1,4 @@
-use Rattle.std.proofs.Common.{◌≡◌, ℕ, ◌+◌, true, List, [], ◌∷◌, ◌++◌, length, None, sym, refl, ap, ◌∙◌, arith, rules}
+use Rattle.std.proofs.Common.{◌≡◌, ℕ, ◌+◌, true, List, ◌∷◌, ◌++◌, length, None, sym, refl, arith, rules}
 use Rattle.std.proofs.lemmas.List.{append-nil}
 use Rattle.base.specs.Numbers.{be2}
 use Rattle.message.specs.Contents.{change}
@@ -19,15 +19,15 @@ module _ (h : Head) (a b : List ℕ) where
   pieces : header 1 h 2 ++ ((2 ∷ h.sender.0 ∷ be2 (length a)) ++ ((3 ∷ h.sender.0 ∷ be2 (length b)) ++ (a ++ b))) ≡ encoded (sent h (change None a b))
   pieces = λ i. header 1 h 2 ++ ((2 ∷ h.sender.0 ∷ be2 (length a)) ++ ((3 ∷ h.sender.0 ∷ be2 (length b)) ++ (a ++ sym (append-nil b) i)))
 
-pub returns-then-not-has-room : goal.returns-then-not-has-room
-returns-then-not-has-room c =
-    too_short true _ _ _ _ refl (long c.args.head c.args.rchg.now c.args.cand.now) c.if-not-has-room.ensures
+pub returns-then-not-has_room : goal.returns-then-not-has_room
+returns-then-not-has_room c =
+    too_short true _ _ _ _ refl (long c.args.head c.args.rchg.now c.args.cand.now) c.if-not-has_room.ensures
 
 pub returns : goal.returns
 returns c =
     all_written true _ _ _ _ refl (long c.args.head c.args.rchg.now c.args.cand.now)
     _ c.add-2.new.self.fill.now.len _ _ _
     (pieces c.args.head c.args.rchg.now c.args.cand.now)
-    c.if-not-has-room.ensures c.begin-draft.ensures.now (search rules)
-    (adds_then c.add-header.ensures.added (adds_then c.add-entry.ensures.added (adds_then c.add-entry-2.ensures.added
+    c.if-not-has_room.ensures c.begin-draft.ensures.now (search rules)
+    (adds_then c.add_header.ensures.added (adds_then c.add_entry.ensures.added (adds_then c.add_entry-2.ensures.added
     (adds_then c.add.ensures.added c.add-2.ensures.added))))

@@ -10,10 +10,10 @@ loop-vote-preserved c =
     let vs = c.args.votes.now
     in let i = c.loop-vote.vote-index
     in let step : seals_length (drop i vs) ≡ length (seal_bytes (get_or vs i blank).seal) + seals_length (drop (i + 1) vs) = at_drop_more seals_length vs i blank c.loop-vote-test.true
-    in let long : length c.as-slice.result.now ≡ length (seal_bytes (get_or vs i blank).seal) = ap length c.as-slice.ensures.bytes
+    in let long : length c.as_slice.result.now ≡ length (seal_bytes (get_or vs i blank).seal) = ap length c.as_slice.ensures.bytes
     in let was = c.loop-vote.invariant.0
     in let small = c.loop-vote.invariant.1
-    in let bound = c.as-slice.ensures.small
+    in let bound = c.as_slice.ensures.small
     in (omega arith, omega arith)
 
 pub returns : goal.returns

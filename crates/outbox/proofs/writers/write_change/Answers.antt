@@ -7,4 +7,4 @@ use Rattle.outbox.proofs.writers.write_change.Goals as goal
 
 pub returns-in-Some : goal.returns-in-Some
 returns-in-Some c =
-    appended_as _ (λ i. encoded (sent c.args.head (change (sym c.in-Some.is i) (c.as-slice.ensures.bytes i) (c.as-slice-in-Some.ensures.bytes i)))) c.change-with.ensures
+    appended_as _ (λ i. encoded (sent c.args.head (change (sym c.in-Some.is i) (c.as_slice.ensures.bytes i) (c.as_slice-in-Some.ensures.bytes i)))) c.change_with.ensures

@@ -1,4 +1,4 @@
-use Rattle.std.proofs.Common.{◌≡◌, ℕ, ◌+◌, true, List, [], ◌∷◌, ◌++◌, length, sym, refl, ap, ◌∙◌, arith, rules}
+use Rattle.std.proofs.Common.{◌≡◌, ℕ, ◌+◌, true, List, ◌∷◌, ◌++◌, length, sym, refl, ap, ◌∙◌, arith, rules}
 use Rattle.std.proofs.lemmas.List.{append-nil}
 use Rattle.base.specs.Numbers.{be2}
 use Rattle.base.specs.Seals.{seal_bytes}
@@ -11,7 +11,7 @@ use Rattle.message.specs.declared.shapes.Head.{Head}
 use Rattle.message.proofs.Sizing.{length_framed}
 use Rattle.outbox.specs.Written.{sent}
 use Rattle.outbox.proofs.Outcomes.{too_short, all_written}
-use Rattle.outbox.proofs.Pieces.{adds_then, adds_as}
+use Rattle.outbox.proofs.Pieces.{adds_then}
 use Rattle.outbox.proofs.writers.write_commit.Goals as goal
 
 -- how long the message is
@@ -27,14 +27,14 @@ pieces h s seal n b is same =
     (λ i. header 4 h 2 ++ ((1 ∷ 0 ∷ be2 (is i)) ++ ((4 ∷ h.sender.0 ∷ be2 (length (same i))) ++ (slip_bytes s ++ same i))))
     ∙ ap (λ z. header 4 h 2 ++ ((1 ∷ 0 ∷ be2 (length (slip_bytes s))) ++ ((4 ∷ h.sender.0 ∷ be2 (length (seal_bytes seal))) ++ (slip_bytes s ++ z)))) (sym (append-nil (seal_bytes seal)))
 
-pub returns-then-not-has-room : goal.returns-then-not-has-room
-returns-then-not-has-room c =
-    too_short true _ _ _ _ refl (long c.args.head c.args.slip.now c.args.seal.now c.size.result c.as-slice-seal.result.now c.size.ensures.size c.as-slice-seal.ensures.bytes) c.if-not-has-room.ensures
+pub returns-then-not-has_room : goal.returns-then-not-has_room
+returns-then-not-has_room c =
+    too_short true _ _ _ _ refl (long c.args.head c.args.slip.now c.args.seal.now c.size.result c.as_slice-seal.result.now c.size.ensures.size c.as_slice-seal.ensures.bytes) c.if-not-has_room.ensures
 
 pub returns : goal.returns
 returns c =
-    all_written true _ _ _ _ refl (long c.args.head c.args.slip.now c.args.seal.now c.size.result c.as-slice-seal.result.now c.size.ensures.size c.as-slice-seal.ensures.bytes)
+    all_written true _ _ _ _ refl (long c.args.head c.args.slip.now c.args.seal.now c.size.result c.as_slice-seal.result.now c.size.ensures.size c.as_slice-seal.ensures.bytes)
     _ c.add.new.self.fill.now.len _ _ _
-    (pieces c.args.head c.args.slip.now c.args.seal.now c.size-2.result c.as-slice-seal.result.now c.size-2.ensures.size c.as-slice-seal.ensures.bytes)
-    c.if-not-has-room.ensures c.begin-draft.ensures.now (search rules)
-    (adds_then c.add-header.ensures.added (adds_then c.add-entry.ensures.added (adds_then c.add-entry-2.ensures.added (adds_then c.add-slip.ensures.added c.add.ensures.added))))
+    (pieces c.args.head c.args.slip.now c.args.seal.now c.size-2.result c.as_slice-seal.result.now c.size-2.ensures.size c.as_slice-seal.ensures.bytes)
+    c.if-not-has_room.ensures c.begin-draft.ensures.now (search rules)
+    (adds_then c.add_header.ensures.added (adds_then c.add_entry.ensures.added (adds_then c.add_entry-2.ensures.added (adds_then c.add_slip.ensures.added c.add.ensures.added))))

@@ -1,4 +1,4 @@
-use Rattle.std.proofs.Common.{◌≡◌, ℕ, ◌+◌, true, List, [], ◌∷◌, ◌++◌, length, sym, refl, ap, ◌∙◌, arith, rules}
+use Rattle.std.proofs.Common.{◌≡◌, ℕ, ◌+◌, true, List, ◌∷◌, ◌++◌, length, sym, ap, ◌∙◌, arith, rules}
 use Rattle.std.proofs.lemmas.List.{append-nil}
 use Rattle.std.proofs.lemmas.Bool.Decides.{nat_tests}
 use Rattle.base.specs.Numbers.{be2}
@@ -24,17 +24,17 @@ module _ (h : Head) (l : List ℕ) (inner : Locked (List ℕ)) (seal : Seal) (b 
       (λ i. header 6 h 2 ++ ((6 ∷ 0 ∷ be2 (length l)) ++ ((5 ∷ h.sender.0 ∷ be2 (length (same i))) ++ (l ++ same i))))
       ∙ (λ i. header 6 h 2 ++ ((6 ∷ 0 ∷ be2 (length l)) ++ ((5 ∷ h.sender.0 ∷ be2 (length (seal_bytes seal))) ++ (l ++ sym (append-nil (seal_bytes seal)) i))))
 
-pub returns-then-not-has-room : goal.returns-then-not-has-room
-returns-then-not-has-room c inner =
+pub returns-then-not-has_room : goal.returns-then-not-has_room
+returns-then-not-has_room c inner =
     let lay : measurable c.args.lock.now ≡ true = grind (arith, nat_tests)
-    in too_short (measurable c.args.lock.now) _ _ _ _ lay (long c.args.head c.args.lock.now inner c.args.own.now c.as-slice-own.result.now c.as-slice-own.ensures.bytes) c.if-not-has-room.ensures
+    in too_short (measurable c.args.lock.now) _ _ _ _ lay (long c.args.head c.args.lock.now inner c.args.own.now c.as_slice-own.result.now c.as_slice-own.ensures.bytes) c.if-not-has_room.ensures
 
 pub returns : goal.returns
 returns c inner =
     let lay : measurable c.args.lock.now ≡ true = grind (arith, nat_tests)
-    in all_written (measurable c.args.lock.now) _ _ _ _ lay (long c.args.head c.args.lock.now inner c.args.own.now c.as-slice-own.result.now c.as-slice-own.ensures.bytes)
+    in all_written (measurable c.args.lock.now) _ _ _ _ lay (long c.args.head c.args.lock.now inner c.args.own.now c.as_slice-own.result.now c.as_slice-own.ensures.bytes)
     _ c.add-2.new.self.fill.now.len _ _ _
-    (pieces c.args.head c.args.lock.now inner c.args.own.now c.as-slice-own.result.now c.as-slice-own.ensures.bytes)
-    c.if-not-has-room.ensures c.begin-draft.ensures.now (search rules)
-    (adds_then c.add-header.ensures.added (adds_then c.add-entry.ensures.added (adds_then c.add-entry-2.ensures.added
+    (pieces c.args.head c.args.lock.now inner c.args.own.now c.as_slice-own.result.now c.as_slice-own.ensures.bytes)
+    c.if-not-has_room.ensures c.begin-draft.ensures.now (search rules)
+    (adds_then c.add_header.ensures.added (adds_then c.add_entry.ensures.added (adds_then c.add_entry-2.ensures.added
     (adds_then c.add.ensures.added c.add-2.ensures.added))))
