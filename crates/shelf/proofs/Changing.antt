@@ -1,5 +1,5 @@
 -- Candidates whose locks are changed, one after the other.
-use Rattle.std.proofs.Common.{◌≡◌, ℕ, ◌+◌, ◌<◌, ◌≤◌, true, false, cond, List, [], ◌∷◌, ◌++◌, map, length, get_or, take, drop, set, Some, None, Option, sym, refl, ap, ◌∙◌, subst, add-one, arith}
+use Rattle.std.proofs.Common.{◌≡◌, ℕ, ◌+◌, ◌<◌, ◌≤◌, true, false, cond, List, [], ◌∷◌, ◌++◌, length, get_or, take, drop, set, Some, None, Option, sym, ap, ◌∙◌, subst, add-one, arith}
 use Rattle.std.proofs.lemmas.List.{append-nil, append_assoc, map-append, set-get_or, set_split, take_all, drop_all, take_more, take_more_set, drop_more, drop-set-lt, at_drop_more}
 use Rattle.std.specs.Option.{option_map}
 use Rattle.agree.specs.Pool.{Lock as Kept-lock}

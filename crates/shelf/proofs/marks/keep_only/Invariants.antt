@@ -1,4 +1,4 @@
-use Rattle.std.proofs.Common.{◌≡◌, ◌++◌, map, take, drop}
+use Rattle.std.proofs.Common.{◌≡◌, map, take, drop}
 use Rattle.protocol.specs.Rounds.{keep_only}
 use Rattle.shelf.specs.Locks.{lock_view}
 use Rattle.shelf.specs.Views.{candidate_view}

@@ -13,4 +13,4 @@ loop-i-init c = behind_last (λ (cs : List Candidate). highest_lock (option_map 
 pub loop-i-preserved : goal.loop-i-preserved
 loop-i-preserved c =
     highest_back c.args.candidates.now c.loop-i.i c.loop-i-test.true c.loop-i.auto.i (option_map held_view c.args.held.now)
-    (option_map lock_view c.loop-i.best) (option_map lock_view c.higher-of-best.result) c.loop-i.invariant c.higher-of-best.ensures
+    (option_map lock_view c.loop-i.best) (option_map lock_view c.higher_of-best.result) c.loop-i.invariant c.higher_of-best.ensures

@@ -11,4 +11,4 @@ loop-i-init c = behind_last (λ (cs : List Candidate). in_locks (locks_of (views
 pub loop-i-preserved : goal.loop-i-preserved
 loop-i-preserved c =
     locks_back c.args.candidates.now c.loop-i.i c.loop-i-test.true c.loop-i.auto.i
-    c.loop-i.locks c.more-locks-locks.result c.loop-i.invariant c.more-locks-locks.ensures
+    c.loop-i.locks c.more_locks-locks.result c.loop-i.invariant c.more_locks-locks.ensures

@@ -10,4 +10,4 @@ loop-i-init g c = behind_last (λ (cs : List Candidate). top_of (g.R.Rulebook.ra
 pub loop-i-preserved : goal.loop-i-preserved
 loop-i-preserved g c =
     top_back c.args.candidates.now c.loop-i.i c.loop-i-test.true c.loop-i.auto.i (g.R.Rulebook.ranked c.args.rules.now)
-    c.loop-i.best c.better-of.result c.loop-i.invariant c.better-of.ensures
+    c.loop-i.best c.better_of.result c.loop-i.invariant c.better_of.ensures

@@ -4,4 +4,4 @@ use Rattle.shelf.proofs.candidates.Candidates.has_place.Goals as goal
 
 pub returns-else-knows : goal.returns-else-knows
 returns-else-knows c =
-    place_by_room c.args.slip.now c.as-slice-candidates.result.now (shelf_view c.args.self.now) c.as-slice-candidates.ensures c.if-knows.ensures
+    place_by_room c.args.slip.now c.as_slice-candidates.result.now (shelf_view c.args.self.now) c.as_slice-candidates.ensures c.if-knows.ensures

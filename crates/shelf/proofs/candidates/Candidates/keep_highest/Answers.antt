@@ -11,7 +11,7 @@ use Rattle.shelf.proofs.candidates.Candidates.keep_highest.Goals as goal
 
 pub returns : goal.returns
 returns c =
-    changed (keep_only (option_map lock_view c.highest-only.result)) c.args.self.now.len c.min-len.result c.args.self.now.slots c.keep-only.new.candidates
-    (omega arith) c.min-len.ensures (omega arith) c.keep-only.ensures
+    changed (keep_only (option_map lock_view c.highest-only.result)) c.args.self.now.len c.min-len.result c.args.self.now.slots c.keep_only.new.candidates
+    (omega arith) c.min-len.ensures (omega arith) c.keep_only.ensures
     ∙ ap (λ (o : Option (Kept-lock Slip)). keep_only o (shelf_view c.args.self.now))
-    (c.highest-only.ensures ∙ ap (λ (cs : List Known-slip). highest_lock (option_map held_view c.args.held.now) (locks_of cs)) c.as-slice.ensures)
+    (c.highest-only.ensures ∙ ap (λ (cs : List Known-slip). highest_lock (option_map held_view c.args.held.now) (locks_of cs)) c.as_slice.ensures)

@@ -6,12 +6,12 @@ use Rattle.shelf.proofs.candidates.Candidates.shelve.Goals.{else-self-all-via-th
 
 pub returns-then-not-knows : goal.returns-then-not-knows
 returns-then-not-knows c =
-    shelved_last c.args.slip.now c.args.self.now.slots c.as-slice.result.now c.args.self.now.len
-    (omega arith) (omega arith) c.as-slice.ensures c.if-not-knows.ensures
+    shelved_last c.args.slip.now c.args.self.now.slots c.as_slice.result.now c.args.self.now.len
+    (omega arith) (omega arith) c.as_slice.ensures c.if-not-knows.ensures
 
 pub returns-else-self-all : goal.returns-else-self-all
 returns-else-self-all c =
     elim c.else-self-all.branch [
-      | else-self-all-via-then-self-all+else-not-knows w ↦ shelved_known c.args.slip.now w.as-slice.result.now (shelf_view c.args.self.now) w.as-slice.ensures w.if-not-knows.ensures
+      | else-self-all-via-then-self-all+else-not-knows w ↦ shelved_known c.args.slip.now w.as_slice.result.now (shelf_view c.args.self.now) w.as_slice.ensures w.if-not-knows.ensures
       | else-self-all-via-else-self-all w ↦ shelved_full c.args.slip.now c.args.self.now.slots c.args.self.now.len (omega arith) (omega arith)
     ]

@@ -1,4 +1,4 @@
-use Rattle.std.proofs.Common.{◌≡◌, ◌-◌, ◌≤◌, length, take, ap, ◌∙◌, arith}
+use Rattle.std.proofs.Common.{◌≡◌, ◌-◌, take, ap, ◌∙◌, arith}
 use Rattle.std.proofs.lemmas.List.{take_at, length-take}
 use Rattle.shelf.proofs.Parting.{take_most}
 use Rattle.shelf.proofs.held.Held.new.Goals as goal
