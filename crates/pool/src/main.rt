@@ -1,5 +1,6 @@
 // A walk through what the pool's members do with messages and with seals.
 #![tactic(auto)]
+
 mod layout;
 mod sealing;
 
