@@ -1,5 +1,5 @@
 -- The seals of the parts of a message, by the functions that look at them.
-use Rattle.std.specs.Prelude.{ℕ, Bool, true, false, List, [], ◌∷◌, ◌++◌, Some, None, Option}
+use Rattle.std.specs.Prelude.{ℕ, Bool, true, false, List, [], ◌∷◌, ◌++◌, Some, Option}
 use Rattle.base.specs.declared.slips.Slip.{Slip}
 use Rattle.base.specs.declared.statements.Statement.{Statement}
 use Rattle.base.specs.declared.statements.Word.{Word}

@@ -3,7 +3,7 @@ use Rattle.std.specs.Prelude.{◌≡◌, ℕ, Bool, true, false, cond, ◌||◌,
 use Rattle.base.specs.declared.stages.Kind.{Kind}
 use Rattle.base.specs.declared.stages.Kind.TheVariants.{Change, Lock, Select, Commit, Decide, Release}
 use Rattle.base.specs.declared.stages.Stage.{Stage}
-use Rattle.base.specs.declared.stages.Stage.TheVariants.{Resting, Changing, Locking, Committing, Releasing}
+use Rattle.base.specs.declared.stages.Stage.TheVariants.{Resting, Committing, Releasing}
 use Rattle.message.specs.Contents.{Content}
 use Rattle.message.specs.Encoding.{kind_in}
 use Rattle.message.specs.declared.shapes.Head.{Head}

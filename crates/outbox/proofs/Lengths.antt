@@ -1,11 +1,11 @@
 -- How long messages are, by the lengths of their parts.
-use Rattle.std.proofs.Common.{◌≡◌, ℕ, ◌+◌, ◌*◌, List, map, length, Some, None, Option, ap, arith}
+use Rattle.std.proofs.Common.{◌≡◌, ℕ, ◌+◌, ◌*◌, List, map, length, Some, None, Option, arith}
 use Rattle.base.specs.Seals.{seal_bytes}
 use Rattle.base.specs.Slips.{slip_bytes}
 use Rattle.base.specs.declared.seals.Seal.{Seal}
 use Rattle.base.specs.declared.seals.Vote.{Vote}
 use Rattle.base.specs.declared.slips.Slip.{Slip}
-use Rattle.message.specs.Contents.{Cert, Locked, change, commit, release}
+use Rattle.message.specs.Contents.{Locked, change, commit, release}
 use Rattle.message.specs.Encoding.{blocks, cert_blocks, encoded, framed}
 use Rattle.message.specs.declared.shapes.Head.{Head}
 use Rattle.message.proofs.Sizing.{length_framed}

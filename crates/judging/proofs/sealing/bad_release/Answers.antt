@@ -15,6 +15,6 @@ returns-in-Some g c = λ w.
 pub returns-in-None : goal.returns-in-None
 returns-in-None g c = λ w.
     let inner = c.args.inner.now
-    in c.bad-own.ensures
+    in c.bad_own.ensures
     ∙ sym (bad_later (g.C.Checker.recognised c.args.checker.now) (lock_checks true inner.head (cert_of inner.certificate))
     (own_check 1 c.args.head Rlse (Some inner.certificate.slip) c.args.own.bytes.now ∷ []) (sym (c.in-None.ensures w)))

@@ -1,4 +1,4 @@
-use Rattle.std.proofs.Common.{◌≡◌, ℕ, ◌+◌, List, [], ◌∷◌, ◌++◌, length, Some, sym, rules}
+use Rattle.std.proofs.Common.{◌≡◌, ℕ, List, ◌∷◌, ◌++◌, length, Some, sym, rules}
 use Rattle.std.proofs.lemmas.List.{append-nil}
 use Rattle.base.specs.Numbers.{be2}
 use Rattle.base.specs.Slips.{slip_bytes}
@@ -22,6 +22,6 @@ returns c =
       start = search rules;
       added =
           adds_as _ (pieces c.args.head c.args.slip.now c.args.rchg.now c.args.cand.now c.size.result c.size.ensures.size)
-          (adds_then c.add-header.ensures.added (adds_then c.add-entry.ensures.added (adds_then c.add-entry-2.ensures.added (adds_then c.add-entry-3.ensures.added
-          (adds_then c.add-slip.ensures.added (adds_then c.add.ensures.added c.add-2.ensures.added))))));
+          (adds_then c.add_header.ensures.added (adds_then c.add_entry.ensures.added (adds_then c.add_entry-2.ensures.added (adds_then c.add_entry-3.ensures.added
+          (adds_then c.add_slip.ensures.added (adds_then c.add.ensures.added c.add-2.ensures.added))))));
     }

@@ -1,4 +1,4 @@
-use Rattle.std.proofs.Common.{◌≡◌, ℕ, List, [], ◌∷◌, ◌++◌, length, None, sym, rules}
+use Rattle.std.proofs.Common.{◌≡◌, ℕ, List, ◌∷◌, ◌++◌, length, None, sym, rules}
 use Rattle.std.proofs.lemmas.List.{append-nil}
 use Rattle.base.specs.Numbers.{be2}
 use Rattle.message.specs.Contents.{change}
@@ -19,6 +19,6 @@ returns c =
       start = search rules;
       added =
           adds_as _ (pieces c.args.head c.args.rchg.now c.args.cand.now)
-          (adds_then c.add-header.ensures.added (adds_then c.add-entry.ensures.added (adds_then c.add-entry-2.ensures.added
+          (adds_then c.add_header.ensures.added (adds_then c.add_entry.ensures.added (adds_then c.add_entry-2.ensures.added
           (adds_then c.add.ensures.added c.add-2.ensures.added))));
     }

@@ -1,4 +1,4 @@
-use Rattle.std.proofs.Common.{◌≡◌, ℕ, ◌+◌, ◌%◌, true, List, [], ◌∷◌, ◌++◌, length, mod-eq_of_lt, arith, rules}
+use Rattle.std.proofs.Common.{◌≡◌, ℕ, ◌+◌, ◌%◌, true, List, ◌∷◌, ◌++◌, length, arith, rules}
 use Rattle.std.proofs.lemmas.Bool.Decides.{nat_tests}
 use Rattle.base.specs.Kinds.{kind_number}
 use Rattle.base.specs.Numbers.{be2}
@@ -27,7 +27,7 @@ returns c =
       lent = search rules;
       start = search rules;
       added = λ few.
-          adds_as _ (pieces (kind_number c.args.kind) c.args.sort c.args.head c.args.slip.now c.args.own.now c.args.votes.now c.as-slice-own.result.now c.size.result c.as-slice-own.ensures.bytes c.size.ensures.size few)
-          (adds_then c.add-header.ensures.added (adds_then c.add-entry.ensures.added (adds_then c.add-entry-2.ensures.added (adds_then c.add-vote-entries.ensures.added
-          (adds_then c.add-slip.ensures.added (adds_then c.add.ensures.added c.add-vote-bodies.ensures.added))))));
+          adds_as _ (pieces (kind_number c.args.kind) c.args.sort c.args.head c.args.slip.now c.args.own.now c.args.votes.now c.as_slice-own.result.now c.size.result c.as_slice-own.ensures.bytes c.size.ensures.size few)
+          (adds_then c.add_header.ensures.added (adds_then c.add_entry.ensures.added (adds_then c.add_entry-2.ensures.added (adds_then c.add_vote_entries.ensures.added
+          (adds_then c.add_slip.ensures.added (adds_then c.add.ensures.added c.add_vote_bodies.ensures.added))))));
     }

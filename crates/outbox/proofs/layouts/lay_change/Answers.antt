@@ -10,5 +10,5 @@ returns-in-Some c =
     record {
       lent = search rules;
       start = search rules;
-      added = adds_as _ (λ i. encoded (sent c.args.head (change (sym c.in-Some.is i) (c.as-slice.ensures.bytes i) (c.as-slice-in-Some.ensures.bytes i)))) c.change-with.ensures.added;
+      added = adds_as _ (λ i. encoded (sent c.args.head (change (sym c.in-Some.is i) (c.as_slice.ensures.bytes i) (c.as_slice-in-Some.ensures.bytes i)))) c.change_with.ensures.added;
     }

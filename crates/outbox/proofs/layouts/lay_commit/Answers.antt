@@ -1,4 +1,4 @@
-use Rattle.std.proofs.Common.{◌≡◌, ℕ, List, [], ◌∷◌, ◌++◌, length, sym, ap, ◌∙◌, rules}
+use Rattle.std.proofs.Common.{◌≡◌, ℕ, List, ◌∷◌, ◌++◌, length, sym, ap, ◌∙◌, rules}
 use Rattle.std.proofs.lemmas.List.{append-nil}
 use Rattle.base.specs.Numbers.{be2}
 use Rattle.base.specs.Seals.{seal_bytes}
@@ -24,7 +24,7 @@ returns c =
       lent = search rules;
       start = search rules;
       added =
-          adds_as _ (pieces c.args.head c.args.slip.now c.args.seal.now c.size.result c.as-slice-seal.result.now c.size.ensures.size c.as-slice-seal.ensures.bytes)
-          (adds_then c.add-header.ensures.added (adds_then c.add-entry.ensures.added (adds_then c.add-entry-2.ensures.added
-          (adds_then c.add-slip.ensures.added c.add.ensures.added))));
+          adds_as _ (pieces c.args.head c.args.slip.now c.args.seal.now c.size.result c.as_slice-seal.result.now c.size.ensures.size c.as_slice-seal.ensures.bytes)
+          (adds_then c.add_header.ensures.added (adds_then c.add_entry.ensures.added (adds_then c.add_entry-2.ensures.added
+          (adds_then c.add_slip.ensures.added c.add.ensures.added))));
     }

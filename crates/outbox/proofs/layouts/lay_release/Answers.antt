@@ -1,4 +1,4 @@
-use Rattle.std.proofs.Common.{◌≡◌, ℕ, List, [], ◌∷◌, ◌++◌, length, sym, ◌∙◌, rules}
+use Rattle.std.proofs.Common.{◌≡◌, ℕ, List, ◌∷◌, ◌++◌, length, sym, ◌∙◌, rules}
 use Rattle.std.proofs.lemmas.List.{append-nil}
 use Rattle.base.specs.Numbers.{be2}
 use Rattle.base.specs.Seals.{seal_bytes}
@@ -22,7 +22,7 @@ returns c =
       lent = search rules;
       start = search rules;
       added = λ inner.
-          adds_as _ (pieces c.args.head c.args.lock.now inner c.args.own.now c.as-slice-own.result.now c.as-slice-own.ensures.bytes)
-          (adds_then c.add-header.ensures.added (adds_then c.add-entry.ensures.added (adds_then c.add-entry-2.ensures.added
+          adds_as _ (pieces c.args.head c.args.lock.now inner c.args.own.now c.as_slice-own.result.now c.as_slice-own.ensures.bytes)
+          (adds_then c.add_header.ensures.added (adds_then c.add_entry.ensures.added (adds_then c.add_entry-2.ensures.added
           (adds_then c.add.ensures.added c.add-2.ensures.added))));
     }
