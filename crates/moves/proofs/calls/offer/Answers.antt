@@ -18,7 +18,7 @@ pub returns : goal.returns
 returns g c =
     let b = box_of g.S.Sealer.meaning g.R.Rulebook.admitted g.R.Rulebook.ranked c.args.core.now
     in let s = c.args.slip.now
-    in let none : None ≡ offer_refused b s = c.in-default.ensures
+    in let none : None ≡ offer_refused b s = c.in_default.ensures
     in let cs = b.view.candidates
     in outcome_as b _ 0 0 [] [] _ _ _ (is_judged b 0 [] (offer_refused b s) _ _ (offer_judged b s) none)
     (ends_quiet b _ 0 0 [] [] refl refl (plainly taken (with_candidates b.view (shelved s cs))) refl
