@@ -1,4 +1,4 @@
-use Rattle.std.proofs.Common.{List, [], ◌∷◌, refl, ap}
+use Rattle.std.proofs.Common.{[], ◌∷◌, refl, ap}
 use Rattle.base.specs.Seals.{seal_bytes}
 use Rattle.shelf.specs.Views.{held_view}
 use Rattle.std.proofs.lemmas.Result.{err_from_is_err_and}

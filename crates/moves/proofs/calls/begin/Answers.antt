@@ -1,4 +1,3 @@
-use Rattle.std.proofs.Common.{refl}
 use Rattle.holding.specs.Views.{box_of}
 use Rattle.holding.proofs.Endings.{outcome_as}
 use Rattle.moves.specs.Refusing.{begin_refused}

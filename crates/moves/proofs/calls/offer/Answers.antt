@@ -1,10 +1,8 @@
-use Rattle.std.proofs.Common.{◌≡◌, true, cond, List, [], None, Ok, sym, refl, ap, ◌∙◌}
-use Rattle.base.specs.declared.slips.Slip.{Slip}
+use Rattle.std.proofs.Common.{◌≡◌, cond, [], None, refl, ap, ◌∙◌}
 use Rattle.holding.specs.Views.{box_of}
 use Rattle.holding.proofs.Endings.{with_sealer, outcome_as, ends_quiet}
 use Rattle.protocol.specs.Messages.{taken}
-use Rattle.protocol.specs.Rounds.{has_place, shelved, with_candidates, plainly}
-use Rattle.protocol.specs.State.{Box}
+use Rattle.protocol.specs.Rounds.{shelved, with_candidates, plainly}
 use Rattle.moves.specs.Refusing.{offer_refused}
 use Rattle.moves.proofs.Refusals.{offer_judged, offer_placed, is_refused, is_judged}
 use Rattle.moves.proofs.calls.offer.Goals as goal

@@ -1,4 +1,4 @@
-use Rattle.std.proofs.Common.{◌≡◌, ◌+◌, None, sym, refl, ◌∙◌}
+use Rattle.std.proofs.Common.{◌+◌, sym, refl, ◌∙◌}
 use denote.Enum.Bare.{same_true, same_false}
 use Rattle.base.specs.contracts.stages.Stage.{the_type}
 use Rattle.holding.specs.Views.{box_of}
@@ -6,7 +6,7 @@ use Rattle.holding.proofs.Endings.{outcome_as, ends_quiet}
 use Rattle.protocol.specs.Messages.{taken}
 use Rattle.protocol.specs.Rounds.{plainly, with_ticks}
 use Rattle.moves.specs.Refusing.{tick_refused}
-use Rattle.moves.proofs.Refusals.{tick_judged, tick_rests, tick_counts, tick_moves, ticked, is_refused, is_judged}
+use Rattle.moves.proofs.Refusals.{tick_judged, tick_rests, tick_counts, tick_moves, is_refused, is_judged}
 use Rattle.moves.proofs.calls.tick.Goals as goal
 
 pub returns-in-Some : goal.returns-in-Some

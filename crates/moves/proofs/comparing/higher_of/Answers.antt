@@ -1,7 +1,6 @@
-use Rattle.std.proofs.Common.{◌≡◌, Some, None, sym, refl, ap, ◌∙◌}
+use Rattle.std.proofs.Common.{Some, None, sym, ap, ◌∙◌}
 use Rattle.message.specs.Comparing.{higher_of}
 use Rattle.message.specs.Shapes.{lock_of}
-use Rattle.message.specs.Views.{lock_view}
 use Rattle.shelf.specs.Views.{held_view}
 use Rattle.std.specs.Option.{option_map}
 use Rattle.holding.specs.Views.{box_of}

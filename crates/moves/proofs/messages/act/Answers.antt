@@ -1,7 +1,5 @@
-use Rattle.std.proofs.Common.{◌≡◌, ℕ, ◌<◌, ◌≤◌, Bool, true, false, not, ◌||◌, List, Ok, sym, refl, ap, ◌∙◌, subst, arith}
+use Rattle.std.proofs.Common.{◌≡◌, Bool, true, false, not, ◌||◌, Ok, sym, refl, ap, ◌∙◌, subst, arith}
 use Rattle.base.specs.Pools.{last_height}
-use Rattle.base.specs.Seals.{seal_bytes}
-use Rattle.base.specs.declared.stages.Stage.TheVariants.{Committing}
 use Rattle.std.proofs.lemmas.Bool.{ltb-true}
 use Rattle.std.proofs.lemmas.Bool.Decides.{nat_tests}
 use Rattle.holding.specs.Views.{box_of}

@@ -1,10 +1,9 @@
-use Rattle.std.proofs.Common.{◌≡◌, Some, None, Ok, Err, sym, refl, ap, ◌∙◌}
+use Rattle.std.proofs.Common.{Ok, Err, sym, refl, ap, ◌∙◌}
 use Rattle.holding.specs.Views.{box_of}
 use Rattle.holding.proofs.Endings.{outcome_as, ends_refused}
 use Rattle.judging.specs.Views.{sent_of}
 use Rattle.judging.proofs.Fields.{read_fields}
 use Rattle.message.specs.RoundTrip.{fields}
-use Rattle.moves.specs.Verdict.{verdict}
 use Rattle.moves.proofs.Verdicts.{judged_none, judged_some, judged_passed, judged_refused}
 use Rattle.moves.proofs.messages.take.Goals as goal
 

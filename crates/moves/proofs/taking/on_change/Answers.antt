@@ -1,4 +1,4 @@
-use Rattle.std.proofs.Common.{sym, refl, ap, ◌∙◌}
+use Rattle.std.proofs.Common.{sym, refl, ap}
 use Rattle.base.specs.Seals.{seal_bytes}
 use Rattle.holding.specs.Views.{box_of, view_of, settings_view}
 use Rattle.holding.proofs.Endings.{with_sealer}

@@ -1,7 +1,6 @@
 use Rattle.std.proofs.Common.{[], ◌∷◌, refl, ap, ◌∙◌}
 use Rattle.base.specs.Seals.{seal_bytes}
-use Rattle.base.specs.declared.stages.Stage.TheVariants.{Committing}
-use Rattle.holding.specs.Views.{box_of, view_of}
+use Rattle.holding.specs.Views.{box_of}
 use Rattle.holding.proofs.Endings.{with_sealer}
 use Rattle.protocol.specs.Judging.{round_in}
 use Rattle.protocol.specs.Rounds.{moved}
