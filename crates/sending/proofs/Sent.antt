@@ -1,5 +1,5 @@
 -- What became of a draft, from its test of the room, its sealings and its layout.
-use Rattle.std.proofs.Common.{◌≡◌, ℕ, suc, ◌+◌, ◌-◌, ◌*◌, ◌<◌, ◌≤◌, Bool, true, false, leb, List, [], ◌∷◌, map, length, take, replicate, Ok, Err, Option, sym, refl, ap, ◌∙◌, subst, inl, inr, arith}
+use Rattle.std.proofs.Common.{◌≡◌, ℕ, suc, ◌+◌, ◌-◌, ◌*◌, ◌≤◌, Bool, true, false, leb, List, [], ◌∷◌, map, length, take, replicate, Ok, Err, Option, sym, refl, ap, ◌∙◌, subst, inl, inr, arith}
 use Rattle.std.proofs.lemmas.List.{length-replicate}
 use Rattle.std.proofs.lemmas.Bool.Decides.{nat_tests}
 use Rattle.base.specs.Slips.{slip_bytes}
@@ -7,7 +7,7 @@ use Rattle.base.specs.Statements.{statement_bytes}
 use Rattle.base.specs.Writing.{wrote}
 use Rattle.base.specs.Kinds.{kind_number}
 use Rattle.base.specs.declared.refusals.Refusal.{Refusal}
-use Rattle.base.specs.declared.refusals.Refusal.TheVariants.{WornSealer, OutboxShort}
+use Rattle.base.specs.declared.refusals.Refusal.TheVariants.{OutboxShort}
 use Rattle.base.specs.declared.seals.Vote.{Vote}
 use Rattle.base.specs.declared.slips.Slip.{Slip}
 use Rattle.base.specs.declared.stages.Kind.{Kind}
@@ -22,7 +22,7 @@ use Rattle.protocol.specs.Plans.{Draft, draft_bytes, draft_size}
 use Rattle.protocol.specs.Rounds.{change_draft, head_for}
 use Rattle.seal.specs.Meaning.{Meaning, spent, Stated, Unstated}
 use Rattle.sending.specs.Drafts.{release_for, cert_for}
-use Rattle.sending.specs.Sending.{spent_by, Good, has_room, Sending, Went, Short, Worn}
+use Rattle.sending.specs.Sending.{spent_by, Good, has_room, Sending}
 
 -- spending seals, none or one by one
 pub spent_none : (m : Meaning) → m.left ≡ 0 → m ≡ spent_by m.left m
@@ -36,12 +36,12 @@ pub stated_as : (m m' : Meaning) (s t : Statement) (seal : List ℕ) → s ≡ t
 stated_as m m' s t seal same st = subst (λ x. Stated m (statement_bytes x) m' seal) same st
 
 module _ (m : Meaning) (d : Draft) (f need : ℕ) (out : List ℕ) (long : need ≡ draft_size d m.long) where
-  has_room : (b : Bool) → b ≡ fits f need (length out) → has_room m d f out ≡ b
-  has_room b e = sym (e ∙ ap (λ n. leb (f + n) (length out)) long)
+  room_told : (b : Bool) → b ≡ fits f need (length out) → has_room m d f out ≡ b
+  room_told b e = sym (e ∙ ap (λ n. leb (f + n) (length out)) long)
 
   -- it does not fit
   pub is_short : (m' : Meaning) (f' : ℕ) (out' : List ℕ) → m' ≡ m → f' ≡ f → out' ≡ out → false ≡ fits f need (length out) → Sending m m' d f f' out out' (Err OutboxShort)
-  is_short m' f' out' same-m same-f same-o no_room = inl (record { full = has_room false no_room; short = refl; unspent = same-m; same_outbox = same-o; same_fill = same-f })
+  is_short m' f' out' same-m same-f same-o no_room = inl (record { full = room_told false no_room; short = refl; unspent = same-m; same_outbox = same-o; same_fill = same-f })
 
   module _ (room : true ≡ fits f need (length out)) where
     -- worn before the first seal
@@ -50,7 +50,7 @@ module _ (m : Meaning) (d : Draft) (f need : ℕ) (out : List ℕ) (long : need 
         let none : m.left ≡ 0 = u.none
         in let some : length d.wants ≡ suc (length ss) = ap length wants
         in inr (record {
-          fits = has_room true room;
+          fits = room_told true room;
           few = grind (arith, nat_tests);
           worn = u.because;
           made = [];
@@ -66,7 +66,7 @@ module _ (m : Meaning) (d : Draft) (f need : ℕ) (out : List ℕ) (long : need 
         let one : m.left ≡ 1 = let n : m1.left ≡ 0 = u.none in let l : m1.left ≡ m.left - 1 = ap (λ (x : Meaning). x.left) st.worn in let a = st.any in omega arith
         in let some : length d.wants ≡ 2 = ap length wants
         in inr (record {
-          fits = has_room true room;
+          fits = room_told true room;
           few = grind (arith, nat_tests);
           worn = u.because;
           made = seal ∷ [];
@@ -85,7 +85,7 @@ module _ (m : Meaning) (d : Draft) (f need : ℕ) (out : List ℕ) (long : need 
 
       pub goes_with : (m' : Meaning) → length d.wants ≤ m.left → Good m d.wants seals → m' ≡ spent_by (length d.wants) m → Sending m m' d f f' out out' (Ok seals)
       goes_with m' enough good spent =
-          record { room = has_room true room; enough = grind (arith, nat_tests); good = good; spent = spent; outbox = stands.0; filled = stands.1 }
+          record { room = room_told true room; enough = grind (arith, nat_tests); good = good; spent = spent; outbox = stands.0; filled = stands.1 }
 
       -- with one seal, and with two
       pub goes_one : (m' : Meaning) (t : Statement) (x : List ℕ) → d.wants ≡ t ∷ [] → seals ≡ x ∷ [] → Stated m (statement_bytes t) m' x → Sending m m' d f f' out out' (Ok seals)

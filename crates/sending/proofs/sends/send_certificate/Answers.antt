@@ -1,4 +1,4 @@
-use Rattle.std.proofs.Common.{◌≡◌, ℕ, ◌+◌, ◌*◌, List, [], ◌∷◌, map, length, Some, sym, refl, ap, ◌∙◌, arith, rules}
+use Rattle.std.proofs.Common.{◌≡◌, ℕ, ◌+◌, ◌*◌, List, [], ◌∷◌, map, length, Some, sym, refl, ◌∙◌, arith, rules}
 use Rattle.std.proofs.lemmas.Result.{err_from_is_err_and}
 use Rattle.base.specs.Seals.{seal_bytes}
 use Rattle.protocol.specs.Plans.{draft_bytes, draft_size}
@@ -23,28 +23,28 @@ module _ (h : Head) (what : Certified) (s : Slip) (vs : List Vote) (n w : ℕ) (
   fills : (x : List ℕ) → length x ≡ long → length (draft_bytes (cert_for h (kind_of what) (sort_of what) (word_of what) s (map signed_by vs)) (x ∷ [])) ≡ 20 + n + k + w
   fills x ex = let e = cert_fills h (kind_of what) (sort_of what) (word_of what) s vs long x ex in omega arith
 
-pub returns-then-not-has-room : goal.returns-then-not-has-room
-returns-then-not-has-room g c few =
+pub returns-then-not-has_room : goal.returns-then-not-has_room
+returns-then-not-has_room g c few =
     is_short (g.S.Sealer.meaning c.args.sealer.now) _ _ _ _
-    (size c.args.head c.args.certified c.args.slip.now c.args.votes.now c.size.result c.votes-room.result c.size.ensures.size (c.votes-room.ensures.room few) c.seal-length.result g.S.Checker.seal_long _ c.seal-length.ensures (g.met.S.Sealer.long c.args.sealer.now))
-    _ _ _ refl refl refl c.if-not-has-room.ensures
+    (size c.args.head c.args.certified c.args.slip.now c.args.votes.now c.size.result c.votes_room.result c.size.ensures.size (c.votes_room.ensures.room few) c.seal_length.result g.S.Checker.seal_long _ c.seal_length.ensures (g.met.S.Sealer.long c.args.sealer.now))
+    _ _ _ refl refl refl c.if-not-has_room.ensures
 
-pub returns-in-err-own : goal.returns-in-err-own
-returns-in-err-own g c few =
-    let p = err_from_is_err_and c.from-residual.result c.from-residual.ensures.1
+pub returns-in_err-own : goal.returns-in_err-own
+returns-in_err-own g c few =
+    let p = err_from_is_err_and c.from_residual.result c.from_residual.ensures.1
     in rw (p.1, p.2) (worn_first (g.S.Sealer.meaning c.args.sealer.now) _ _ _ _
-    (size c.args.head c.args.certified c.args.slip.now c.args.votes.now c.size.result c.votes-room.result c.size.ensures.size (c.votes-room.ensures.room few) c.seal-length.result g.S.Checker.seal_long _ c.seal-length.ensures (g.met.S.Sealer.long c.args.sealer.now))
-    c.if-not-has-room.ensures (g.S.Sealer.meaning c.seal-statement.new.sealer) _ _ c.in-err-own.field-0.0 _ _ refl (search rules) refl c.in-err-own.ensures)
+    (size c.args.head c.args.certified c.args.slip.now c.args.votes.now c.size.result c.votes_room.result c.size.ensures.size (c.votes_room.ensures.room few) c.seal_length.result g.S.Checker.seal_long _ c.seal_length.ensures (g.met.S.Sealer.long c.args.sealer.now))
+    c.if-not-has_room.ensures (g.S.Sealer.meaning c.seal_statement.new.sealer) _ _ c.in_err-own.field-0.0 _ _ refl (search rules) refl c.in_err-own.ensures)
 
 pub returns : goal.returns
 returns g c few =
     let m = g.S.Sealer.meaning c.args.sealer.now
-    in let m1 = g.S.Sealer.meaning c.seal-statement.new.sealer
-    in let x = seal_bytes c.in-ok-own.own
+    in let m1 = g.S.Sealer.meaning c.seal_statement.new.sealer
+    in let x = seal_bytes c.in_ok-own.own
     in goes_one m _ _ _ _
-    (size c.args.head c.args.certified c.args.slip.now c.args.votes.now c.size.result c.votes-room.result c.size.ensures.size (c.votes-room.ensures.room few) c.seal-length.result g.S.Checker.seal_long _ c.seal-length.ensures (g.met.S.Sealer.long c.args.sealer.now))
-    c.if-not-has-room.ensures (x ∷ []) _ c.lay-certificate.new.draft.fill.now.len _ _ c.begin-draft.ensures.now (search rules)
-    (fills c.args.head c.args.certified c.args.slip.now c.args.votes.now c.size.result c.votes-room.result c.size.ensures.size (c.votes-room.ensures.room few) c.seal-length.result g.S.Checker.seal_long m.long c.seal-length.ensures (g.met.S.Sealer.long c.args.sealer.now) x c.in-ok-own.ensures.whole)
-    (adds_as _ (λ i. framed (kind_number (c.kind.ensures i)) c.args.head (cert_blocks (c.sort.ensures i) c.args.head (cert_with c.args.slip.now c.in-ok-own.own c.args.votes.now))) (c.lay-certificate.ensures.added few))
+    (size c.args.head c.args.certified c.args.slip.now c.args.votes.now c.size.result c.votes_room.result c.size.ensures.size (c.votes_room.ensures.room few) c.seal_length.result g.S.Checker.seal_long _ c.seal_length.ensures (g.met.S.Sealer.long c.args.sealer.now))
+    c.if-not-has_room.ensures (x ∷ []) _ c.lay_certificate.new.draft.fill.now.len _ _ c.begin-draft.ensures.now (search rules)
+    (fills c.args.head c.args.certified c.args.slip.now c.args.votes.now c.size.result c.votes_room.result c.size.ensures.size (c.votes_room.ensures.room few) c.seal_length.result g.S.Checker.seal_long m.long c.seal_length.ensures (g.met.S.Sealer.long c.args.sealer.now) x c.in_ok-own.ensures.whole)
+    (adds_as _ (λ i. framed (kind_number (c.kind.ensures i)) c.args.head (cert_blocks (c.sort.ensures i) c.args.head (cert_with c.args.slip.now c.in_ok-own.own c.args.votes.now))) (c.lay_certificate.ensures.added few))
     m1 c.says.result x
-    (λ i. sym (c.says.ensures ∙ (λ j. record { word = c.word.ensures j; height = c.args.head.height; round = c.args.head.round; page = Some c.args.slip.now })) i ∷ []) refl c.in-ok-own.ensures
+    (λ i. sym (c.says.ensures ∙ (λ j. record { word = c.word.ensures j; height = c.args.head.height; round = c.args.head.round; page = Some c.args.slip.now })) i ∷ []) refl c.in_ok-own.ensures
