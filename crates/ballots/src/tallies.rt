@@ -26,7 +26,7 @@ pub trait Ballot<Q> {
 
 // How many records are for what is asked.
 pub fn count<Q, B: Ballot<Q>>(records: &[B], asked: &Q) -> usize
-    ensures { result ≡ tally (λ b. backed b asked.now) records.now }
+    ensures { result ≡ tally (λ b. B.backed b asked.now) records.now }
 {
     let mut n = 0;
     for record in records {
@@ -41,7 +41,7 @@ pub fn count<Q, B: Ballot<Q>>(records: &[B], asked: &Q) -> usize
 // there is room; record i is of member i. Returns how many there are.
 pub fn lowest<Q, B: Ballot<Q>>(records: &[B], asked: &Q, quorum: usize, votes: &mut [Vote]) -> usize
     ensures within { result ≤ length votes.new }
-    ensures votes { quorum ≤ length votes.old → length records.now ≤ 256 → map signed_by (take result votes.new) ≡ take quorum (votes_from (λ b. backed b asked.now) (λ b. given b asked.now) 0 records.now) }
+    ensures votes { quorum ≤ length votes.old → length records.now ≤ 256 → map signed_by (take result votes.new) ≡ take quorum (votes_from (λ b. B.backed b asked.now) (λ b. B.given b asked.now) 0 records.now) }
 {
     let room = quorum.min(votes.len());
     let mut filled = 0;

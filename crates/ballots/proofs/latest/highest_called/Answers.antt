@@ -12,23 +12,23 @@ loop-i-init c =
     in let test = calls_for c.args.own.0 c.args.resting c.args.tolerance (latest_list xs)
     in sym (at_drop_all (λ ys. highest_round test (latest_list ys)) xs (length xs) (le_refl (length xs)))
 
-pub loop-i-preserved-then-is-called : goal.loop-i-preserved-then-is-called
-loop-i-preserved-then-is-called c =
+pub loop-i-preserved-then-is_called : goal.loop-i-preserved-then-is_called
+loop-i-preserved-then-is_called c =
     let xs = c.args.latest.now
     in let test = calls_for c.args.own.0 c.args.resting c.args.tolerance (latest_list xs)
     in let i = c.loop-i.i - 1
     in let more : i < length xs = omega arith
     in let back : c.loop-i.i ≡ i + 1 = omega arith
-    in called test xs i more c.in-Some.stated c.loop-i.highest c.higher.result c.in-Some.is c.if-is-called.ensures c.higher.ensures (c.loop-i.invariant ∙ ap (highest_from test xs) back)
+    in called test xs i more c.in-Some.stated c.loop-i.highest c.higher.result c.in-Some.is c.if-is_called.ensures c.higher.ensures (c.loop-i.invariant ∙ ap (highest_from test xs) back)
 
-pub loop-i-preserved-else-is-called : goal.loop-i-preserved-else-is-called
-loop-i-preserved-else-is-called c =
+pub loop-i-preserved-else-is_called : goal.loop-i-preserved-else-is_called
+loop-i-preserved-else-is_called c =
     let xs = c.args.latest.now
     in let test = calls_for c.args.own.0 c.args.resting c.args.tolerance (latest_list xs)
     in let i = c.loop-i.i - 1
     in let more : i < length xs = omega arith
     in let back : c.loop-i.i ≡ i + 1 = omega arith
-    in not_called test xs i more c.in-Some.stated c.loop-i.highest c.in-Some.is c.if-is-called.ensures (c.loop-i.invariant ∙ ap (highest_from test xs) back)
+    in not_called test xs i more c.in-Some.stated c.loop-i.highest c.in-Some.is c.if-is_called.ensures (c.loop-i.invariant ∙ ap (highest_from test xs) back)
 
 pub loop-i-preserved : goal.loop-i-preserved
 loop-i-preserved c =
@@ -37,4 +37,4 @@ loop-i-preserved c =
     in let i = c.loop-i.i - 1
     in let more : i < length xs = omega arith
     in let back : c.loop-i.i ≡ i + 1 = omega arith
-    in not_stated test xs i more c.loop-i.highest c.in-default.is (c.loop-i.invariant ∙ ap (highest_from test xs) back)
+    in not_stated test xs i more c.loop-i.highest c.in_default.is (c.loop-i.invariant ∙ ap (highest_from test xs) back)

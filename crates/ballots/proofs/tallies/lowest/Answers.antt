@@ -2,7 +2,7 @@ use Rattle.std.proofs.Common.{◌≡◌, ◌<◌, ◌≤◌, length, take, ap, �
 use Rattle.protocol.specs.Turns.{votes_from}
 use Rattle.ballots.proofs.Counting.{filled_more, filled_same, filled_full, filled_all}
 use Rattle.ballots.proofs.tallies.lowest.Goals as goal
-use Rattle.ballots.proofs.tallies.lowest.Goals.{in-Some, in-default}
+use Rattle.ballots.proofs.tallies.lowest.Goals.{in-Some, in_default}
 
 pub returns-then-filled-room : goal.returns-then-filled-room
 returns-then-filled-room g c =
@@ -31,7 +31,7 @@ loop-i-preserved g c =
     in let fits : c.loop-i.filled < length c.loop-i.votes = omega arith
     in elim c.match-seal.branch [
       | in-Some w ↦ (omega (arith, w.filled-is), filled_more test seal xs room i c.loop-i.filled c.loop-i.votes (take room (votes_from test seal 0 xs)) c.loop-i.invariant.1 c.index-records-i.result w.in-Some.seal c.match-seal.votes c.match-seal.filled more c.index-records-i.is w.in-Some.ensures (omega arith) fits w.votes-is w.filled-is)
-      | in-default w ↦ (omega (arith, w.filled-is), filled_same test seal xs room i c.loop-i.filled c.loop-i.votes (take room (votes_from test seal 0 xs)) c.loop-i.invariant.1 c.index-records-i.result c.match-seal.votes c.match-seal.filled more c.index-records-i.is w.in-default.ensures w.votes-is w.filled-is)
+      | in_default w ↦ (omega (arith, w.filled-is), filled_same test seal xs room i c.loop-i.filled c.loop-i.votes (take room (votes_from test seal 0 xs)) c.loop-i.invariant.1 c.index-records-i.result c.match-seal.votes c.match-seal.filled more c.index-records-i.is w.in_default.ensures w.votes-is w.filled-is)
     ]
 
 pub returns : goal.returns
