@@ -1,8 +1,10 @@
 -- What a replica holds after a message.
-use Rattle.std.proofs.Common.{◌≡◌, ℕ, ◌≤◌, Bool, true, false, cond, ◌||◌, ltb, List, [], ◌∷◌, length, take, Some, None, sym, refl, ap, ◌∙◌}
+use Rattle.std.proofs.Common.{◌≡◌, ℕ, ◌≤◌, Bool, true, false, cond, ◌||◌, ltb, List, [], ◌∷◌, length, take, Some, None, refl, ap, ◌∙◌}
+use denote.Enum.Bare.{sameb}
 use Rattle.agree.specs.Pool.{Lock}
 use Rattle.base.specs.Slips.{one_page}
 use Rattle.base.specs.declared.slips.Slip.{Slip}
+use Rattle.base.specs.contracts.stages.Stage.{the_type}
 use Rattle.base.specs.declared.stages.Stage.{Stage}
 use Rattle.base.specs.declared.stages.Stage.TheVariants.{Resting, Changing, Locking, Committing, Releasing}
 use Rattle.protocol.specs.Judging.{above_all}
@@ -13,13 +15,13 @@ use Rattle.protocol.specs.State.{View, Candidate}
 use Rattle.protocol.specs.State as protocol
 use Rattle.std.proofs.lemmas.List.{take_all, length-map}
 
-pub resting_as : (b : Bool) (stage : Stage) → cond b (stage ≡ Resting) (stage ≡ Resting → ⊥) → b ≡ is_resting stage
-resting_as true stage is = ap is_resting (sym is)
-resting_as false Resting not = absurd (not refl)
-resting_as false Changing not = refl
-resting_as false Locking not = refl
-resting_as false Committing not = refl
-resting_as false Releasing not = refl
+-- the program's test for resting
+pub resting_as : (b : Bool) (stage : Stage) → b ≡ sameb the_type stage Resting → b ≡ is_resting stage
+resting_as b Resting is = is
+resting_as b Changing is = is
+resting_as b Locking is = is
+resting_as b Committing is = is
+resting_as b Releasing is = is
 
 -- a slip for which there is a place is shelved
 pub shelves_as : (s : Slip) (cs ds : List Candidate) → has_place s cs ≡ true → ds ≡ cond (has_place s cs) (shelved s cs) cs → ds ≡ shelved s cs

@@ -1,11 +1,11 @@
 -- The ways in which a call ends.
-use Rattle.std.proofs.Common.{◌≡◌, ℕ, ◌+◌, ◌-◌, ◌≤◌, Bool, true, false, cond, leb, ◌⊎◌, List, [], ◌∷◌, length, Some, None, Ok, Err, Option, Result, sym, refl, ap, ◌∙◌, subst, inl, inr, arith}
+use Rattle.std.proofs.Common.{◌≡◌, ℕ, ◌-◌, Bool, true, false, cond, List, [], length, Some, None, Ok, Err, Option, Result, sym, refl, ap, ◌∙◌, subst, inl, inr, arith}
 use Rattle.base.specs.declared.refusals.Refusal.{Refusal}
-use Rattle.base.specs.declared.refusals.Refusal.TheVariants.{WornSealer, OutboxShort}
-use Rattle.protocol.specs.Plans.{Draft, Plan, Done, draft_size, settled, carried, quiet, goes, wears, refusing}
+use Rattle.base.specs.declared.refusals.Refusal.TheVariants.{OutboxShort}
+use Rattle.protocol.specs.Plans.{Draft, Plan, Done, settled, carried, quiet, goes, wears, refusing}
 use Rattle.protocol.specs.State.{View, Box, Latest}
 use Rattle.seal.specs.Meaning.{Meaning}
-use Rattle.sending.specs.Sending.{Good, Went, Short, Worn, Sending, spent_by, has_room, has_seals}
+use Rattle.sending.specs.Sending.{Good, Sending, has_room, has_seals}
 use Rattle.holding.specs.Outcome.{left_as, Ends, Outcome}
 
 -- a replica with another sealer and another view
@@ -68,14 +68,14 @@ module _ {X : Type 0} (b after : Box) (fill fill' : ℕ) (out out' : List ℕ) w
         in let none : b.sealer.left - b.sealer.left ≡ 0 = omega arith
         in record {
           seals = w.made;
-          good = subst (λ (e : Done X). Good b.sealer e.sealed w.made) done w.made-good;
+          good = subst (λ (e : Done X). Good b.sealer e.sealed w.made) done w.made_good;
           ends =
               subst (Ends b after fill fill' out out' (Err why)) done
               (record {
                 answers = ap Err w.worn;
-                leaves = same ∙ ap (λ z. with_sealer b z b.view) w.all-spent ∙ ap (left_as b b.view) none;
-                writes = w.outbox-same;
-                fills = w.fill-same;
+                leaves = same ∙ ap (λ z. with_sealer b z b.view) w.all_spent ∙ ap (left_as b b.view) none;
+                writes = w.outbox_same;
+                fills = w.fill_same;
               });
         }
 

@@ -4,7 +4,6 @@ use Rattle.base.specs.declared.pools.Pool.{Pool}
 use Rattle.base.specs.declared.pools.Pool.TheVariants.{Four, Seven, Ten}
 use Rattle.base.specs.declared.refusals.Refusal.{Refusal}
 use Rattle.base.specs.declared.refusals.Refusal.TheVariants.{Unlawful}
-use Rattle.base.specs.declared.slips.Mark.{Mark}
 use Rattle.holding.specs.declared.settings.Settings.{Settings}
 use Rattle.holding.specs.declared.trials.Terms.{Terms}
 use Rattle.holding.specs.Views.{settings_view}

@@ -1,5 +1,5 @@
 -- What the values of the program stand for.
-use Rattle.std.specs.Prelude.{ℕ, Bool}
+use Rattle.std.specs.Prelude.{Bool}
 use Rattle.ballots.specs.Views.{statements_view}
 use Rattle.base.specs.Pools.{members}
 use Rattle.base.specs.declared.counters.Height.{Height}

@@ -9,5 +9,5 @@ pub returns : goal.returns
 returns c s same =
     let resting = resting_as _ _ c.eq-resting.ensures
     in let few = c.tolerance.ensures ∙ ap tolerance (sym same)
-    in c.highest-called.ensures
+    in c.highest_called.ensures
     ∙ (λ i. highest_round (calls_for c.args.self.now.round.0 (resting i) (few i) (c.of.ensures.places i)) (c.of.ensures.places i))

@@ -9,5 +9,5 @@ use Rattle.holding.proofs.states.State.note_own.Goals as goal
 
 pub returns : goal.returns
 returns c s same =
-    c.go-on.ensures s same
-    ∙ ap (onward s) (c.come-to.ensures c.args.pool ∙ ap (λ l. moved (statements_as (view_of c.args.pool c.args.self.now) l) c.args.round.0 Changing) (c.set.ensures (members c.args.pool) (few c.args.pool)))
+    c.go_on.ensures s same
+    ∙ ap (onward s) (c.come_to.ensures c.args.pool ∙ ap (λ l. moved (statements_as (view_of c.args.pool c.args.self.now) l) c.args.round.0 Changing) (c.set.ensures (members c.args.pool) (few c.args.pool)))
