@@ -1,6 +1,5 @@
 -- What comparing locks comes to.
-use Rattle.std.proofs.Common.{◌≡◌, ℕ, Bool, true, false, cond, ltb, List, Some, None, Ok, Err, Option, Result, sym, refl, ap, ◌∙◌, Bor}
-use Rattle.base.specs.declared.refusals.Refusal.{Refusal}
+use Rattle.std.proofs.Common.{◌≡◌, ℕ, Bool, true, false, cond, ltb, List, Some, None, Ok, Option, sym, refl, ap, ◌∙◌, Bor}
 use Rattle.base.specs.declared.refusals.Refusal.TheVariants.{Stranger}
 use Rattle.message.specs.Comparing.{higher_of}
 use Rattle.message.specs.Contents.{Locked}

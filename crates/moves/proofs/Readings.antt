@@ -1,20 +1,18 @@
 -- What is known of a message that was read: how long its seals are, and that a lock message finds room.
-use Rattle.std.proofs.Common.{◌≡◌, ℕ, suc, ◌+◌, ◌*◌, ◌<◌, ◌≤◌, true, List, [], ◌∷◌, length, get_or, Some, None, Option, sym, refl, ap, ◌∙◌, subst, add-one, arith, w8, Fits}
+use Rattle.std.proofs.Common.{◌≡◌, ℕ, suc, ◌≤◌, List, [], ◌∷◌, length, get_or, Some, None, Option, ap, ◌∙◌, subst, arith, w8, Fits}
 use Rattle.base.specs.Numbers.{Bytes}
 use Rattle.base.specs.Pools.{quorum}
-use Rattle.base.specs.Seals.{kept, seal_bytes}
+use Rattle.base.specs.Seals.{kept}
 use Rattle.base.specs.declared.pools.Pool.{Pool}
 use Rattle.base.specs.declared.pools.Pool.TheVariants.{Four, Seven, Ten}
-use Rattle.base.specs.declared.seals.Seal.{Seal}
 use Rattle.base.specs.declared.slips.Slip.{Slip}
 use Rattle.message.specs.Contents.{Cert, Locked, Content, change, lock, release, Sent}
 use Rattle.message.specs.Encoding.{Lawful, LawfulContent, encoded}
 use Rattle.message.specs.RoundTrip.{fields}
 use Rattle.message.specs.Sizes.{cert_size}
-use Rattle.message.proofs.Sizing.{cert_size_lem, sizes_hold}
+use Rattle.message.proofs.Sizing.{cert_size_lem}
 use Rattle.message.proofs.Trips.{round_trip}
 use Rattle.std.proofs.lemmas.Bool.Decides.{nat_tests}
-use Rattle.std.specs.Option.{option_map}
 
 -- the bytes of a slice of the program
 pub bytes_of : (m : List ℕ) → ((i : ℕ) → Fits w8 (get_or m i 0)) → Bytes m

@@ -1,5 +1,5 @@
 -- What is said of a message that is well laid out: refused, by the first test that it fails, or not.
-use Rattle.std.specs.Prelude.{◌≡◌, ℕ, Bool, cond, not, List, Some, None, Ok, Err, Option, Result, nat_le}
+use Rattle.std.specs.Prelude.{◌≡◌, ℕ, Bool, not, List, Some, None, Ok, Err, Option, Result, nat_le}
 use Rattle.base.specs.declared.pools.Pool.{Pool}
 use Rattle.base.specs.declared.refusals.Refusal.{Refusal}
 use Rattle.base.specs.declared.refusals.Refusal.TheVariants.{Stranger, PastHeight, LaterHeight, WrongRound, OutOfStage, OffChain, NotAdmitted, Contradiction, CandidatesFull, BooksEnd}

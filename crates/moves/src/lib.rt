@@ -1,5 +1,6 @@
 // The calls that move a replica.
 #![tactic(auto)]
+
 mod acts;
 pub mod calls;
 pub mod comparing;

@@ -1,17 +1,12 @@
 -- A certificate over the votes that were filled in is one over the votes of the lowest members.
-use Rattle.std.proofs.Common.{◌≡◌, ℕ, ◌-◌, ◌<◌, ◌≤◌, true, List, map, length, take, Result, sym, ap, ◌∙◌, arith, lt-ltb}
+use Rattle.std.proofs.Common.{◌≡◌, ℕ, ◌-◌, ◌≤◌, true, List, map, length, take, ap, ◌∙◌, arith, lt-ltb}
 use Rattle.base.specs.Pools.{quorum}
 use Rattle.base.specs.declared.pools.Pool.{Pool}
 use Rattle.base.specs.declared.pools.Pool.TheVariants.{Four, Seven, Ten}
-use Rattle.base.specs.declared.refusals.Refusal.{Refusal}
 use Rattle.base.specs.declared.seals.Vote.{Vote}
 use Rattle.message.specs.Contents.{Signed}
 use Rattle.outbox.specs.Written.{signed_by, countable}
-use Rattle.protocol.specs.Plans.{Draft}
-use Rattle.seal.specs.Meaning.{Meaning}
-use Rattle.sending.specs.Sending.{Sending}
 use Rattle.std.proofs.lemmas.List.{length-take-le}
-use Rattle.holding.proofs.Endings.{sending_as}
 
 pub quorum_few : (pool : Pool) → quorum pool ≤ 10
 quorum_few Four = omega arith

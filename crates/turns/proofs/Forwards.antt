@@ -1,10 +1,10 @@
 -- How putting forward ends.
-use Rattle.std.proofs.Common.{◌≡◌, ℕ, ◌≤◌, true, ◌&&◌, eqb, ltb, List, ◌++◌, length, drop, replicate, Some, None, Ok, Err, Result, sym, refl, ap, ◌∙◌, subst, leb-true}
-use Rattle.base.specs.Pools.{members, quorum, leader_of}
+use Rattle.std.proofs.Common.{◌≡◌, ℕ, ◌≤◌, true, ◌&&◌, ltb, List, ◌++◌, length, drop, replicate, Some, None, Ok, Err, Result, sym, refl, ap, ◌∙◌, subst, leb-true}
+use Rattle.base.specs.Pools.{members, quorum}
 use Rattle.base.specs.declared.refusals.Refusal.{Refusal}
 use Rattle.base.specs.declared.refusals.Refusal.TheVariants.{Stranger, FewRecords, TurnPast, NotYourTurn}
 use Rattle.base.specs.declared.slips.Slip.{Slip}
-use Rattle.protocol.specs.Plans.{Plan, unless}
+use Rattle.protocol.specs.Plans.{Plan}
 use Rattle.protocol.specs.Rounds.{is_locking}
 use Rattle.protocol.specs.State.{Box}
 use Rattle.protocol.specs.Turns.{Gathering, Records, Forwarded, leads, enough, still_in, agreed_of, forward_by, judge_forward}

@@ -1,5 +1,5 @@
 -- What is judged of a turn, with what is to be done then.
-use Rattle.std.specs.Prelude.{◌≡◌, ℕ, List, take, Some, None, Ok, Err, Option, Result}
+use Rattle.std.specs.Prelude.{◌≡◌, ℕ, take, Some, None, Ok, Err, Option, Result}
 use Rattle.base.specs.Pools.{quorum}
 use Rattle.base.specs.Seals.{kept}
 use Rattle.base.specs.declared.pools.Pool.{Pool}

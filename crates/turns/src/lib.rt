@@ -1,5 +1,6 @@
 // The leader's turn: opened once a round, put forward, filled with commits, closed.
 #![tactic(auto)]
+
 mod certifying;
 pub mod closing;
 pub mod committing;

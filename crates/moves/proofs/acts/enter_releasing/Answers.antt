@@ -1,4 +1,4 @@
-use Rattle.std.proofs.Common.{List, [], ◌∷◌, refl, ap}
+use Rattle.std.proofs.Common.{[], ◌∷◌, refl, ap}
 use Rattle.base.specs.Seals.{seal_bytes}
 use Rattle.shelf.specs.Views.{held_view}
 use Rattle.std.proofs.lemmas.Result.{err_from_is_err_and}
@@ -10,22 +10,22 @@ use Rattle.holding.proofs.Endings.{with_sealer, ends_quiet}
 use Rattle.moves.proofs.Doing.{releases, releases_not, short_lock}
 use Rattle.moves.proofs.acts.enter_releasing.Goals as goal
 
-pub returns-in-err-send-release : goal.returns-in-err-send-release
-returns-in-err-send-release g c =
+pub returns-in_err-send_release : goal.returns-in_err-send_release
+returns-in_err-send_release g c =
     let b = box_of g.S.Sealer.meaning g.R.Rulebook.admitted g.R.Rulebook.ranked c.args.core.now
-    in let p = err_from_is_err_and c.from-residual.result c.from-residual.ensures.1
-    in rw (p.1, p.2) (releases_not b _ _ _ _ _ (view_of c.args.core.now.settings.pool c.args.next.now) (held_view c.in-Some.held) (ap (option_map held_view) c.in-Some.is) c.member.result.0 _ (g.S.Sealer.meaning c.send-release.new.sealer) c.member.ensures c.as-slice.ensures.bytes c.in-err-send-release.field-0.0
-    (c.in-err-send-release.ensures (short_lock _ c.as-slice.ensures.small)) refl)
+    in let p = err_from_is_err_and c.from_residual.result c.from_residual.ensures.1
+    in rw (p.1, p.2) (releases_not b _ _ _ _ _ (view_of c.args.core.now.settings.pool c.args.next.now) (held_view c.in-Some.held) (ap (option_map held_view) c.in-Some.is) c.member.result.0 _ (g.S.Sealer.meaning c.send_release.new.sealer) c.member.ensures c.as_slice.ensures.bytes c.in_err-send_release.field-0.0
+    (c.in_err-send_release.ensures (short_lock _ c.as_slice.ensures.small)) refl)
 
 pub returns-in-Some : goal.returns-in-Some
 returns-in-Some g c =
     let b = box_of g.S.Sealer.meaning g.R.Rulebook.admitted g.R.Rulebook.ranked c.args.core.now
-    in let m = g.S.Sealer.meaning c.send-release.new.sealer
-    in releases b _ _ _ _ _ (view_of c.args.core.now.settings.pool c.args.next.now) (held_view c.in-Some.held) (ap (option_map held_view) c.in-Some.is) c.member.result.0 _ m c.member.ensures c.as-slice.ensures.bytes (seal_bytes c.in-ok-send-release.field-0 ∷ [])
-    (c.in-ok-send-release.ensures (short_lock _ c.as-slice.ensures.small)) (ap (with_sealer b m) (c.released-core.ensures c.args.core.now.settings.pool))
+    in let m = g.S.Sealer.meaning c.send_release.new.sealer
+    in releases b _ _ _ _ _ (view_of c.args.core.now.settings.pool c.args.next.now) (held_view c.in-Some.held) (ap (option_map held_view) c.in-Some.is) c.member.result.0 _ m c.member.ensures c.as_slice.ensures.bytes (seal_bytes c.in_ok-send_release.field-0 ∷ [])
+    (c.in_ok-send_release.ensures (short_lock _ c.as_slice.ensures.small)) (ap (with_sealer b m) (c.released-core.ensures c.args.core.now.settings.pool))
 
 pub returns : goal.returns
 returns g c =
     let b = box_of g.S.Sealer.meaning g.R.Rulebook.admitted g.R.Rulebook.ranked c.args.core.now
     in let v = view_of c.args.core.now.settings.pool c.args.next.now
-    in ends_quiet b _ _ _ _ _ refl refl (releasing b taken v) (ap (λ h. release_of b.sealer.number v (option_map held_view h)) c.in-default.is) (ap (with_sealer b b.sealer) (c.released-core-2.ensures c.args.core.now.settings.pool))
+    in ends_quiet b _ _ _ _ _ refl refl (releasing b taken v) (ap (λ h. release_of b.sealer.number v (option_map held_view h)) c.in_default.is) (ap (with_sealer b b.sealer) (c.released-core-2.ensures c.args.core.now.settings.pool))

@@ -1,4 +1,3 @@
-use Rattle.std.proofs.Common.{refl}
 use Rattle.holding.specs.Views.{box_of}
 use Rattle.holding.proofs.Endings.{outcome_as}
 use Rattle.moves.specs.Refusing.{begin_refused}
@@ -13,4 +12,4 @@ returns-in-Some g c =
 pub returns : goal.returns
 returns g c =
     let b = box_of g.S.Sealer.meaning g.R.Rulebook.admitted g.R.Rulebook.ranked c.args.core.now
-    in outcome_as b _ _ _ _ _ _ _ _ (is_judged b c.args.fill.now.len c.args.out.now (begin_refused b) _ _ (begin_judged b) c.in-default.ensures) c.state-round.ensures
+    in outcome_as b _ _ _ _ _ _ _ _ (is_judged b c.args.fill.now.len c.args.out.now (begin_refused b) _ _ (begin_judged b) c.in_default.ensures) c.state_round.ensures

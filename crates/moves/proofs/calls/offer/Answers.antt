@@ -1,10 +1,8 @@
-use Rattle.std.proofs.Common.{◌≡◌, true, cond, List, [], None, Ok, sym, refl, ap, ◌∙◌}
-use Rattle.base.specs.declared.slips.Slip.{Slip}
+use Rattle.std.proofs.Common.{◌≡◌, cond, [], None, refl, ap, ◌∙◌}
 use Rattle.holding.specs.Views.{box_of}
 use Rattle.holding.proofs.Endings.{with_sealer, outcome_as, ends_quiet}
 use Rattle.protocol.specs.Messages.{taken}
-use Rattle.protocol.specs.Rounds.{has_place, shelved, with_candidates, plainly}
-use Rattle.protocol.specs.State.{Box}
+use Rattle.protocol.specs.Rounds.{shelved, with_candidates, plainly}
 use Rattle.moves.specs.Refusing.{offer_refused}
 use Rattle.moves.proofs.Refusals.{offer_judged, offer_placed, is_refused, is_judged}
 use Rattle.moves.proofs.calls.offer.Goals as goal
@@ -18,7 +16,7 @@ pub returns : goal.returns
 returns g c =
     let b = box_of g.S.Sealer.meaning g.R.Rulebook.admitted g.R.Rulebook.ranked c.args.core.now
     in let s = c.args.slip.now
-    in let none : None ≡ offer_refused b s = c.in-default.ensures
+    in let none : None ≡ offer_refused b s = c.in_default.ensures
     in let cs = b.view.candidates
     in outcome_as b _ 0 0 [] [] _ _ _ (is_judged b 0 [] (offer_refused b s) _ _ (offer_judged b s) none)
     (ends_quiet b _ 0 0 [] [] refl refl (plainly taken (with_candidates b.view (shelved s cs))) refl

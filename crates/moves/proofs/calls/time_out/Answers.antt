@@ -15,10 +15,10 @@ pub returns-in-Locking : goal.returns-in-Locking
 returns-in-Locking g c =
     let b = box_of g.S.Sealer.meaning g.R.Rulebook.admitted g.R.Rulebook.ranked c.args.core.now
     in outcome_as b _ _ _ _ _ _ _ _ (sym (ap (timed_out b) c.in-Locking.is))
-    (ends_quiet b _ _ _ _ _ refl refl (plainly taken (moved b.view b.view.round Committing)) refl (ap (with_sealer b b.sealer) (c.come-to.ensures c.args.core.now.settings.pool)))
+    (ends_quiet b _ _ _ _ _ refl refl (plainly taken (moved b.view b.view.round Committing)) refl (ap (with_sealer b b.sealer) (c.come_to.ensures c.args.core.now.settings.pool)))
 
-pub returns-else-next-ge-LAST-ROUND : goal.returns-else-next-ge-LAST-ROUND
-returns-else-next-ge-LAST-ROUND g c =
+pub returns-else-next-ge-LAST_ROUND : goal.returns-else-next-ge-LAST_ROUND
+returns-else-next-ge-LAST_ROUND g c =
     let b = box_of g.S.Sealer.meaning g.R.Rulebook.admitted g.R.Rulebook.ranked c.args.core.now
     in let more : ltb b.view.round last_round ≡ true = grind (arith, nat_tests)
-    in outcome_as b _ _ _ _ _ _ _ _ (sym (ap (timed_out b) c.in-Releasing.is ∙ ap (λ t. unless t BooksEnd (Ok (stating b taken b.view (b.view.round + 1)))) more)) c.state-round.ensures
+    in outcome_as b _ _ _ _ _ _ _ _ (sym (ap (timed_out b) c.in-Releasing.is ∙ ap (λ t. unless t BooksEnd (Ok (stating b taken b.view (b.view.round + 1)))) more)) c.state_round.ensures

@@ -9,25 +9,25 @@ returns-in-Some g c =
     let core = c.args.core.now
     in let b = box_of g.S.Sealer.meaning g.R.Rulebook.admitted g.R.Rulebook.ranked core
     in record {
-      refuses = λ w. seal_refused b (sent_of c.args.m.now) (g.S.Checker.recognised core.sealer) (g.met.S.Sealer.knows core.sealer) (c.in-ok-stage.ensures.refuses w) c.in-Some.why (c.in-Some.ensures w);
+      refuses = λ w. seal_refused b (sent_of c.args.m.now) (g.S.Checker.recognised core.sealer) (g.met.S.Sealer.knows core.sealer) (c.in_ok-stage.ensures.refuses w) c.in-Some.why (c.in-Some.ensures w);
       leads = tt;
     }
 
-pub returns-in-Some-bad-slip : goal.returns-in-Some-bad-slip
-returns-in-Some-bad-slip g c =
+pub returns-in-Some-bad_slip : goal.returns-in-Some-bad_slip
+returns-in-Some-bad_slip g c =
     let core = c.args.core.now
     in let b = box_of g.S.Sealer.meaning g.R.Rulebook.admitted g.R.Rulebook.ranked core
     in record {
-      refuses = λ w. slip_refused b (sent_of c.args.m.now) (g.S.Checker.recognised core.sealer) (g.met.S.Sealer.knows core.sealer) (c.in-ok-stage.ensures.refuses w) (c.in-default.ensures w) c.slip-of.result c.slip-of.ensures c.in-Some-bad-slip.why c.in-Some-bad-slip.ensures;
+      refuses = λ w. slip_refused b (sent_of c.args.m.now) (g.S.Checker.recognised core.sealer) (g.met.S.Sealer.knows core.sealer) (c.in_ok-stage.ensures.refuses w) (c.in_default.ensures w) c.slip_of.result c.slip_of.ensures c.in-Some-bad_slip.why c.in-Some-bad_slip.ensures;
       leads = tt;
     }
 
-pub returns-in-Some-bad-standing : goal.returns-in-Some-bad-standing
-returns-in-Some-bad-standing g c =
+pub returns-in-Some-bad_standing : goal.returns-in-Some-bad_standing
+returns-in-Some-bad_standing g c =
     let core = c.args.core.now
     in let b = box_of g.S.Sealer.meaning g.R.Rulebook.admitted g.R.Rulebook.ranked core
     in record {
-      refuses = λ w. state_decides b (sent_of c.args.m.now) (g.S.Checker.recognised core.sealer) (g.met.S.Sealer.knows core.sealer) (c.in-ok-stage.ensures.refuses w) (c.in-default.ensures w) c.slip-of.result c.slip-of.ensures c.member.result.0 (Some c.in-Some-bad-standing.why) c.member.ensures c.in-default-bad-slip.ensures c.in-Some-bad-standing.ensures;
+      refuses = λ w. state_decides b (sent_of c.args.m.now) (g.S.Checker.recognised core.sealer) (g.met.S.Sealer.knows core.sealer) (c.in_ok-stage.ensures.refuses w) (c.in_default.ensures w) c.slip_of.result c.slip_of.ensures c.member.result.0 (Some c.in-Some-bad_standing.why) c.member.ensures c.in_default-bad_slip.ensures c.in-Some-bad_standing.ensures;
       leads = tt;
     }
 
@@ -36,6 +36,6 @@ returns g c =
     let core = c.args.core.now
     in let b = box_of g.S.Sealer.meaning g.R.Rulebook.admitted g.R.Rulebook.ranked core
     in record {
-      refuses = λ w. state_decides b (sent_of c.args.m.now) (g.S.Checker.recognised core.sealer) (g.met.S.Sealer.knows core.sealer) (c.in-ok-stage.ensures.refuses w) (c.in-default.ensures w) c.slip-of.result c.slip-of.ensures c.member.result.0 None c.member.ensures c.in-default-bad-slip.ensures c.in-default-bad-standing.ensures;
-      leads = c.in-ok-stage.ensures.leads;
+      refuses = λ w. state_decides b (sent_of c.args.m.now) (g.S.Checker.recognised core.sealer) (g.met.S.Sealer.knows core.sealer) (c.in_ok-stage.ensures.refuses w) (c.in_default.ensures w) c.slip_of.result c.slip_of.ensures c.member.result.0 None c.member.ensures c.in_default-bad_slip.ensures c.in_default-bad_standing.ensures;
+      leads = c.in_ok-stage.ensures.leads;
     }

@@ -1,7 +1,5 @@
-use Rattle.std.proofs.Common.{◌≡◌, ℕ, ◌<◌, ◌≤◌, Bool, true, false, not, ◌||◌, List, Ok, sym, refl, ap, ◌∙◌, subst, arith}
+use Rattle.std.proofs.Common.{◌≡◌, Bool, true, false, not, ◌||◌, Ok, sym, refl, ap, ◌∙◌, subst, arith}
 use Rattle.base.specs.Pools.{last_height}
-use Rattle.base.specs.Seals.{seal_bytes}
-use Rattle.base.specs.declared.stages.Stage.TheVariants.{Committing}
 use Rattle.std.proofs.lemmas.Bool.{ltb-true}
 use Rattle.std.proofs.lemmas.Bool.Decides.{nat_tests}
 use Rattle.holding.specs.Views.{box_of}
@@ -21,63 +19,63 @@ use Rattle.moves.proofs.messages.act.Goals as goal
 other : (x y : Bool) → (x || y) ≡ true → x ≡ false → y ≡ true
 other x y either first = grind (arith, nat_tests)
 
-pub returns-in-default : goal.returns-in-default
-returns-in-default g c =
+pub returns-in_default : goal.returns-in_default
+returns-in_default g c =
     let b = box_of g.S.Sealer.meaning g.R.Rulebook.admitted g.R.Rulebook.ranked c.args.core.now
     in let s = sent_of c.args.m.now
     in let n = g.S.Checker.seal_long
-    in absurd (is_kept n _ g.met.S.Checker.sizes.0 g.met.S.Checker.sizes.1 (change_sealed c.args.core.now.settings.pool n c.args.message.now s g.met.S.Checker.sizes.1 c.type-inv.message c.requires.read c.in-Change.page _ _ (ap content_in c.in-Change.is)).0 c.in-default.ensures)
+    in absurd (is_kept n _ g.met.S.Checker.sizes.0 g.met.S.Checker.sizes.1 (change_sealed c.args.core.now.settings.pool n c.args.message.now s g.met.S.Checker.sizes.1 c.type_inv.message c.requires.read c.in-Change.page _ _ (ap content_in c.in-Change.is)).0 c.in_default.ensures)
 
-pub returns-in-default-new : goal.returns-in-default-new
-returns-in-default-new g c =
+pub returns-in_default-new : goal.returns-in_default-new
+returns-in_default-new g c =
     let b = box_of g.S.Sealer.meaning g.R.Rulebook.admitted g.R.Rulebook.ranked c.args.core.now
     in let s = sent_of c.args.m.now
     in let n = g.S.Checker.seal_long
-    in absurd (is_kept n _ g.met.S.Checker.sizes.0 g.met.S.Checker.sizes.1 (change_sealed c.args.core.now.settings.pool n c.args.message.now s g.met.S.Checker.sizes.1 c.type-inv.message c.requires.read c.in-Change.page _ _ (ap content_in c.in-Change.is)).1 c.in-default-new.ensures)
+    in absurd (is_kept n _ g.met.S.Checker.sizes.0 g.met.S.Checker.sizes.1 (change_sealed c.args.core.now.settings.pool n c.args.message.now s g.met.S.Checker.sizes.1 c.type_inv.message c.requires.read c.in-Change.page _ _ (ap content_in c.in-Change.is)).1 c.in_default-new.ensures)
 
-pub on-change-requires : goal.on-change-requires
-on-change-requires g c =
+pub on_change-requires : goal.on_change-requires
+on_change-requires g c =
     let b = box_of g.S.Sealer.meaning g.R.Rulebook.admitted g.R.Rulebook.ranked c.args.core.now
     in let s = sent_of c.args.m.now
     in let n = g.S.Checker.seal_long
     in let p = passed b s c.requires.passed
     in λ e. other (repeats (round_in s.head) c.in-Change.page (latest_of b.view (sender_in s.head))) _ (subst (λ k. placed b.view s.head k ≡ true) (ap content_in c.in-Change.is) p.has_place_lem) e
 
-pub on-lock-requires : goal.on-lock-requires
-on-lock-requires g c =
+pub on_lock-requires : goal.on_lock-requires
+on_lock-requires g c =
     let b = box_of g.S.Sealer.meaning g.R.Rulebook.admitted g.R.Rulebook.ranked c.args.core.now
     in let s = sent_of c.args.m.now
     in let n = g.S.Checker.seal_long
     in let p = passed b s c.requires.passed
     in let is : s.content ≡ content_in (Lock c.in-Lock.c) = ap content_in c.in-Lock.is
     in record {
-      short = lock_short c.args.core.now.settings.pool n c.args.message.now s g.met.S.Checker.sizes.1 c.type-inv.message c.requires.read (cert_of c.in-Lock.c) is;
+      short = lock_short c.args.core.now.settings.pool n c.args.message.now s g.met.S.Checker.sizes.1 c.type_inv.message c.requires.read (cert_of c.in-Lock.c) is;
       place = subst (λ k. placed b.view s.head k ≡ true) is p.has_place_lem;
       committing = c.requires.leads ∙ passed_leads b s p ∙ ap (λ k. leads_to b.view.stage (kind_in k)) is;
     }
 
-pub on-select-requires : goal.on-select-requires
-on-select-requires g c =
+pub on_select-requires : goal.on_select-requires
+on_select-requires g c =
     let b = box_of g.S.Sealer.meaning g.R.Rulebook.admitted g.R.Rulebook.ranked c.args.core.now
     in let s = sent_of c.args.m.now
     in let n = g.S.Checker.seal_long
     in subst (λ k. placed b.view s.head k ≡ true) (ap content_in c.in-Select.is) (passed b s c.requires.passed).has_place_lem
 
-pub on-decide-requires : goal.on-decide-requires
-on-decide-requires g c =
+pub on_decide-requires : goal.on_decide-requires
+on_decide-requires g c =
     let b = box_of g.S.Sealer.meaning g.R.Rulebook.admitted g.R.Rulebook.ranked c.args.core.now
     in let s = sent_of c.args.m.now
     in let n = g.S.Checker.seal_long
     in ltb-true b.view.height last_height (subst (λ k. goes_on b.view k ≡ true) (ap content_in c.in-Decide.is) (passed b s c.requires.passed).book_goes_on)
 
-pub on-release-requires : goal.on-release-requires
-on-release-requires g c =
+pub on_release-requires : goal.on_release-requires
+on_release-requires g c =
     let b = box_of g.S.Sealer.meaning g.R.Rulebook.admitted g.R.Rulebook.ranked c.args.core.now
     in let s = sent_of c.args.m.now
     in let n = g.S.Checker.seal_long
     in let p = passed b s c.requires.passed
     in record {
-      short = inner_short c.args.core.now.settings.pool n c.args.message.now s g.met.S.Checker.sizes.1 c.type-inv.message c.requires.read _ (locked_of c.in-Release.inner) _ (ap content_in c.in-Release.is);
+      short = inner_short c.args.core.now.settings.pool n c.args.message.now s g.met.S.Checker.sizes.1 c.type_inv.message c.requires.read _ (locked_of c.in-Release.inner) _ (ap content_in c.in-Release.is);
       place = λ e. other _ _ (subst (λ k. placed b.view s.head k ≡ true) (ap content_in c.in-Release.is) p.has_place_lem) (ap not e);
     }
 
@@ -86,26 +84,26 @@ returns-in-Some-new g c =
     let b = box_of g.S.Sealer.meaning g.R.Rulebook.admitted g.R.Rulebook.ranked c.args.core.now
     in let s = sent_of c.args.m.now
     in let n = g.S.Checker.seal_long
-    in let l = (change_sealed c.args.core.now.settings.pool n c.args.message.now s g.met.S.Checker.sizes.1 c.type-inv.message c.requires.read c.in-Change.page _ _ (ap content_in c.in-Change.is))
+    in let l = (change_sealed c.args.core.now.settings.pool n c.args.message.now s g.met.S.Checker.sizes.1 c.type_inv.message c.requires.read c.in-Change.page _ _ (ap content_in c.in-Change.is))
     in let x = kept_as n _ _ g.met.S.Checker.sizes.0 g.met.S.Checker.sizes.1 l.0 c.in-Some.ensures
     in let y = kept_as n _ _ g.met.S.Checker.sizes.0 g.met.S.Checker.sizes.1 l.1 c.in-Some-new.ensures
     in outcome_as b _ _ _ _ _ _ _ _
     ((λ i. Ok (on_change b s.head c.in-Change.page (x i) (y i))) ∙ ap (λ k. Ok (plan_of b c.args.message.now s.head k)) (sym (ap content_in c.in-Change.is)))
-    c.on-change.ensures
+    c.on_change.ensures
 
 pub returns-in-Lock : goal.returns-in-Lock
 returns-in-Lock g c =
     let b = box_of g.S.Sealer.meaning g.R.Rulebook.admitted g.R.Rulebook.ranked c.args.core.now
     in let s = sent_of c.args.m.now
     in let n = g.S.Checker.seal_long
-    in outcome_as b _ _ _ _ _ _ _ _ (ap (λ k. Ok (plan_of b c.args.message.now s.head k)) (sym (ap content_in c.in-Lock.is))) (c.on-lock.ensures (cert_of c.in-Lock.c) refl)
+    in outcome_as b _ _ _ _ _ _ _ _ (ap (λ k. Ok (plan_of b c.args.message.now s.head k)) (sym (ap content_in c.in-Lock.is))) (c.on_lock.ensures (cert_of c.in-Lock.c) refl)
 
 pub returns-in-Select : goal.returns-in-Select
 returns-in-Select g c =
     let b = box_of g.S.Sealer.meaning g.R.Rulebook.admitted g.R.Rulebook.ranked c.args.core.now
     in let s = sent_of c.args.m.now
     in let n = g.S.Checker.seal_long
-    in outcome_as b _ _ _ _ _ _ _ _ (ap (λ k. Ok (plan_of b c.args.message.now s.head k)) (sym (ap content_in c.in-Select.is))) (c.on-select.ensures (cert_of c.in-Select.c) refl)
+    in outcome_as b _ _ _ _ _ _ _ _ (ap (λ k. Ok (plan_of b c.args.message.now s.head k)) (sym (ap content_in c.in-Select.is))) (c.on_select.ensures (cert_of c.in-Select.c) refl)
 
 pub returns-in-Commit : goal.returns-in-Commit
 returns-in-Commit g c =
@@ -119,4 +117,4 @@ returns-in-Decide g c =
     let b = box_of g.S.Sealer.meaning g.R.Rulebook.admitted g.R.Rulebook.ranked c.args.core.now
     in let s = sent_of c.args.m.now
     in let n = g.S.Checker.seal_long
-    in outcome_as b _ _ _ _ _ _ _ _ (ap (λ k. Ok (plan_of b c.args.message.now s.head k)) (sym (ap content_in c.in-Decide.is))) (c.on-decide.ensures (cert_of c.in-Decide.c) refl)
+    in outcome_as b _ _ _ _ _ _ _ _ (ap (λ k. Ok (plan_of b c.args.message.now s.head k)) (sym (ap content_in c.in-Decide.is))) (c.on_decide.ensures (cert_of c.in-Decide.c) refl)

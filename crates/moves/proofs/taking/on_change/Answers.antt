@@ -1,4 +1,4 @@
-use Rattle.std.proofs.Common.{sym, refl, ap, ◌∙◌}
+use Rattle.std.proofs.Common.{sym, refl, ap}
 use Rattle.base.specs.Seals.{seal_bytes}
 use Rattle.holding.specs.Views.{box_of, view_of, settings_view}
 use Rattle.holding.proofs.Endings.{with_sealer}
@@ -17,8 +17,8 @@ returns-in-None g c =
     in let b = box_of g.S.Sealer.meaning g.R.Rulebook.admitted g.R.Rulebook.ranked c.args.core.now
     in let first = c.if-repeated.ensures
     in uncalled b _ _ _ _ _ c.args.head c.args.page.now (seal_bytes c.args.rchg.now) (seal_bytes c.args.cand.now) refl refl
-    (view_of pool c.note-statement.new.self) first (c.note-statement.ensures pool (c.requires (sym first)))
-    (c.in-None.ensures settings refl) (ap (with_sealer b b.sealer) (c.go-on-changing.ensures settings refl))
+    (view_of pool c.note_statement.new.self) first (c.note_statement.ensures pool (c.requires (sym first)))
+    (c.in-None.ensures settings refl) (ap (with_sealer b b.sealer) (c.go_on_changing.ensures settings refl))
 
 pub returns-in-Some : goal.returns-in-Some
 returns-in-Some g c =
@@ -26,5 +26,5 @@ returns-in-Some g c =
     in let b = box_of g.S.Sealer.meaning g.R.Rulebook.admitted g.R.Rulebook.ranked c.args.core.now
     in let first = c.if-repeated.ensures
     in called b _ _ _ _ _ c.args.head c.args.page.now (seal_bytes c.args.rchg.now) (seal_bytes c.args.cand.now)
-    (view_of pool c.note-statement.new.self) c.in-Some.round.0 _ first (c.note-statement.ensures pool (c.requires (sym first)))
-    (c.in-Some.ensures (settings_view c.args.core.now.settings) refl) c.state-round.ensures
+    (view_of pool c.note_statement.new.self) c.in-Some.round.0 _ first (c.note_statement.ensures pool (c.requires (sym first)))
+    (c.in-Some.ensures (settings_view c.args.core.now.settings) refl) c.state_round.ensures

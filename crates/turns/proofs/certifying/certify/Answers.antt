@@ -13,4 +13,4 @@ returns g c small =
     in sending_as _ _ _ _ _ _ _ _ _
     (ap (cert_for n.head (kind_of n.certified) (sort_of n.certified) (word_of n.certified) n.slip)
     (filled_votes votes c.lowest-len.result c.lowest-len.ensures.within (omega arith) c.quorum.result _ _ c.quorum.ensures (c.lowest-len.ensures.votes (omega arith) small)))
-    (c.send-certificate.ensures (few_votes votes c.lowest-len.result c.lowest-len.ensures.within (omega arith)))
+    (c.send_certificate.ensures (few_votes votes c.lowest-len.result c.lowest-len.ensures.within (omega arith)))

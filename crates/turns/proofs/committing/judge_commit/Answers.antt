@@ -10,67 +10,67 @@ use Rattle.turns.specs.Views.{counting_view}
 use Rattle.turns.proofs.Commits.{commit_judged, keeps_read}
 use Rattle.turns.proofs.committing.judge_commit.Goals as goal
 
-pub returns-in-err-m : goal.returns-in-err-m
-returns-in-err-m g c =
+pub returns-in_err-m : goal.returns-in_err-m
+returns-in_err-m g c =
     let core = c.args.core.now
     in let pool = core.settings.pool
-    in let n = c.seal-length.result
+    in let n = c.seal_length.result
     in let message = c.args.message.now
-    in let read = read_fields pool n message (Err c.in-err-m.field-0.0) c.in-err-m.ensures.reads
-    in let p = err_from_is_err_and c.from-residual.result c.from-residual.ensures.1
+    in let read = read_fields pool n message (Err c.in_err-m.field-0.0) c.in_err-m.ensures.reads
+    in let p = err_from_is_err_and c.from_residual.result c.from_residual.ensures.1
     in rw (p.1, p.2) (commit_judged (box_of g.S.Sealer.meaning g.R.Rulebook.admitted g.R.Rulebook.ranked core) (counting_view c.args.turn.now) (records_view c.args.records.now) message
-    (c.if-not-has.ensures ∙ ap (λ k. ltb k (members pool)) c.member.ensures) c.if-not-is-enough.ensures n (g.met.S.Sealer.long core.sealer ∙ sym c.seal-length.ensures)
+    (c.if-not-has.ensures ∙ ap (λ k. ltb k (members pool)) c.member.ensures) c.if-not-is_enough.ensures n (g.met.S.Sealer.long core.sealer ∙ sym c.seal_length.ensures)
     None _ read.0 (ap Err read.1))
 
-pub returns-in-err-judge-time : goal.returns-in-err-judge-time
-returns-in-err-judge-time g c =
+pub returns-in_err-judge_time : goal.returns-in_err-judge_time
+returns-in_err-judge_time g c =
     let core = c.args.core.now
     in let pool = core.settings.pool
-    in let n = c.seal-length.result
+    in let n = c.seal_length.result
     in let message = c.args.message.now
-    in let m = c.in-ok-m.m
+    in let m = c.in_ok-m.m
     in let b = box_of g.S.Sealer.meaning g.R.Rulebook.admitted g.R.Rulebook.ranked core
     in let turn = counting_view c.args.turn.now
     in let records = records_view c.args.records.now
-    in let p = err_from_is_err_and c.from-residual-in-err-judge-time.result c.from-residual-in-err-judge-time.ensures.1
+    in let p = err_from_is_err_and c.from_residual-in_err-judge_time.result c.from_residual-in_err-judge_time.ensures.1
     in rw (p.1, p.2) (commit_judged b turn records message
-    (c.if-not-has.ensures ∙ ap (λ k. ltb k (members pool)) c.member.ensures) c.if-not-is-enough.ensures n (g.met.S.Sealer.long core.sealer ∙ sym c.seal-length.ensures)
-    (Some (sent_of m)) _ (read_fields pool n message (Ok m) c.in-ok-m.ensures.reads)
-    (c.in-err-judge-time.ensures c.in-ok-m.ensures.wholes (judged_commit b turn records m.head (commit_in (sent_of m).content))))
+    (c.if-not-has.ensures ∙ ap (λ k. ltb k (members pool)) c.member.ensures) c.if-not-is_enough.ensures n (g.met.S.Sealer.long core.sealer ∙ sym c.seal_length.ensures)
+    (Some (sent_of m)) _ (read_fields pool n message (Ok m) c.in_ok-m.ensures.reads)
+    (c.in_err-judge_time.ensures c.in_ok-m.ensures.wholes (judged_commit b turn records m.head (commit_in (sent_of m).content))))
 
-pub returns-in-err-commit : goal.returns-in-err-commit
-returns-in-err-commit g c =
+pub returns-in_err-commit : goal.returns-in_err-commit
+returns-in_err-commit g c =
     let core = c.args.core.now
     in let pool = core.settings.pool
-    in let n = c.seal-length.result
+    in let n = c.seal_length.result
     in let message = c.args.message.now
-    in let m = c.in-ok-m.m
+    in let m = c.in_ok-m.m
     in let b = box_of g.S.Sealer.meaning g.R.Rulebook.admitted g.R.Rulebook.ranked core
     in let turn = counting_view c.args.turn.now
     in let records = records_view c.args.records.now
-    in let is = read_fields pool n message (Ok m) c.in-ok-m.ensures.reads
-    in let whole = c.in-ok-m.ensures.wholes
-    in let keeps = keeps_read pool n g.S.Checker.seal_long c.seal-length.ensures g.met.S.Checker.sizes message (sent_of m) c.in-ok-m.ensures.law c.type-inv.message is
-    in let p = err_from_is_err_and c.from-residual-in-err-commit.result c.from-residual-in-err-commit.ensures.1
+    in let is = read_fields pool n message (Ok m) c.in_ok-m.ensures.reads
+    in let whole = c.in_ok-m.ensures.wholes
+    in let keeps = keeps_read pool n g.S.Checker.seal_long c.seal_length.ensures g.met.S.Checker.sizes message (sent_of m) c.in_ok-m.ensures.law c.type_inv.message is
+    in let p = err_from_is_err_and c.from_residual-in_err-commit.result c.from_residual-in_err-commit.ensures.1
     in rw (p.1, p.2) (commit_judged b turn records message
-    (c.if-not-has.ensures ∙ ap (λ k. ltb k (members pool)) c.member.ensures) c.if-not-is-enough.ensures n (g.met.S.Sealer.long core.sealer ∙ sym c.seal-length.ensures)
+    (c.if-not-has.ensures ∙ ap (λ k. ltb k (members pool)) c.member.ensures) c.if-not-is_enough.ensures n (g.met.S.Sealer.long core.sealer ∙ sym c.seal_length.ensures)
     (Some (sent_of m)) _ is
-    (c.in-err-commit.ensures whole keeps records ∙ c.in-ok-judge-time.ensures whole (judged_commit b turn records m.head (commit_in (sent_of m).content))))
+    (c.in_err-commit.ensures whole keeps records ∙ c.in_ok-judge_time.ensures whole (judged_commit b turn records m.head (commit_in (sent_of m).content))))
 
 pub returns : goal.returns
 returns g c =
     let core = c.args.core.now
     in let pool = core.settings.pool
-    in let n = c.seal-length.result
+    in let n = c.seal_length.result
     in let message = c.args.message.now
-    in let m = c.in-ok-m.m
+    in let m = c.in_ok-m.m
     in let b = box_of g.S.Sealer.meaning g.R.Rulebook.admitted g.R.Rulebook.ranked core
     in let turn = counting_view c.args.turn.now
     in let records = records_view c.args.records.now
-    in let is = read_fields pool n message (Ok m) c.in-ok-m.ensures.reads
-    in let whole = c.in-ok-m.ensures.wholes
-    in let keeps = keeps_read pool n g.S.Checker.seal_long c.seal-length.ensures g.met.S.Checker.sizes message (sent_of m) c.in-ok-m.ensures.law c.type-inv.message is
+    in let is = read_fields pool n message (Ok m) c.in_ok-m.ensures.reads
+    in let whole = c.in_ok-m.ensures.wholes
+    in let keeps = keeps_read pool n g.S.Checker.seal_long c.seal_length.ensures g.met.S.Checker.sizes message (sent_of m) c.in_ok-m.ensures.law c.type_inv.message is
     in commit_judged b turn records message
-    (c.if-not-has.ensures ∙ ap (λ k. ltb k (members pool)) c.member.ensures) c.if-not-is-enough.ensures n (g.met.S.Sealer.long core.sealer ∙ sym c.seal-length.ensures)
+    (c.if-not-has.ensures ∙ ap (λ k. ltb k (members pool)) c.member.ensures) c.if-not-is_enough.ensures n (g.met.S.Sealer.long core.sealer ∙ sym c.seal_length.ensures)
     (Some (sent_of m)) _ is
-    (c.in-ok-commit.ensures whole keeps records ∙ c.in-ok-judge-time.ensures whole (judged_commit b turn records m.head (commit_in (sent_of m).content)))
+    (c.in_ok-commit.ensures whole keeps records ∙ c.in_ok-judge_time.ensures whole (judged_commit b turn records m.head (commit_in (sent_of m).content)))

@@ -13,7 +13,7 @@ returns g c =
     in let own = c.member-own.ensures
     in forward_due (box_of g.S.Sealer.meaning g.R.Rulebook.admitted g.R.Rulebook.ranked core) (gathering_view c.args.turn.now) (records_view c.args.records.now) _
     (c.if-not-has.ensures ∙ ap (λ n. ltb n (members pool)) own)
-    c.if-not-is-enough.ensures
-    (λ i. c.if-not-is-in.ensures i && c.if-not-is-locking.ensures i)
-    (c.if-not-is-leader.ensures ∙ ap (λ n. eqb n (leader_of pool core.state.height core.state.round)) own)
+    c.if-not-is_enough.ensures
+    (λ i. c.if-not-is_in.ensures i && c.if-not-is_locking.ensures i)
+    (c.if-not-is_leader.ensures ∙ ap (λ n. eqb n (leader_of pool core.state.height core.state.round)) own)
     (c.propose.ensures (records_view c.args.records.now))
