@@ -1,5 +1,5 @@
 -- The contract of a call makes it a step of a run.
-use Rattle.std.proofs.Common.{◌≡◌, ℕ, List, [], length, is_ok, Result, sym, refl, ap, ◌∙◌, subst}
+use Rattle.std.proofs.Common.{◌≡◌, ℕ, List, length, is_ok, Result, sym, refl, ap, ◌∙◌, subst}
 use Rattle.base.specs.declared.refusals.Refusal.{Refusal}
 use Rattle.holding.specs.Outcome.{appended}
 use Rattle.protocol.specs.Plans.{Plan, settled}

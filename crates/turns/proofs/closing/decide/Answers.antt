@@ -1,15 +1,12 @@
-use Rattle.std.proofs.Common.{[], ◌∷◌, refl}
+use Rattle.std.proofs.Common.{[], ◌∷◌, Ok, Err, refl}
 use Rattle.ballots.specs.Views.{records_view}
-use Rattle.base.specs.Pools.{quorum}
 use Rattle.base.specs.Seals.{seal_bytes}
-use Rattle.base.specs.declared.stages.Kind.TheVariants.{Decide}
-use Rattle.base.specs.declared.statements.Word.TheVariants.{Dcid}
 use Rattle.holding.specs.Views.{box_of}
 use Rattle.std.proofs.lemmas.Result.{err_from_is_err_and}
 use Rattle.turns.specs.Plans.{closing_plan}
 use Rattle.turns.specs.Views.{counting_view}
-use Rattle.turns.proofs.Counted.{few_records, votes_members}
-use Rattle.turns.proofs.Ending.{cert_as, judged_not, certified, uncertified}
+use Rattle.turns.proofs.Counted.{decided}
+use Rattle.turns.proofs.Ending.{judged_not, certified, uncertified}
 use Rattle.turns.proofs.closing.decide.Goals as goal
 
 pub returns-in_err-judge_closing : goal.returns-in_err-judge_closing
@@ -21,20 +18,16 @@ returns-in_err-judge_closing g c =
 pub returns-in_err-certify : goal.returns-in_err-certify
 returns-in_err-certify g c =
     let b = box_of g.S.Sealer.meaning g.R.Rulebook.admitted g.R.Rulebook.ranked c.args.core.now
-    in let pool = c.args.core.now.settings.pool
-    in let page = c.args.turn.now.page
+    in let turn = counting_view c.args.turn.now
     in let p = err_from_is_err_and c.from_residual-in_err-certify.result c.from_residual-in_err-certify.ensures.1
-    in rw (p.1, p.2) (uncertified b _ _ _ _ _ _ (closing_plan b (counting_view c.args.turn.now) (records_view c.args.records.now)) c.in_ok-judge_closing.ensures _ _ refl
-    (cert_as b c.member.result.0 Decide 4 Dcid page _ _ c.member.ensures (votes_members pool c.args.records.now c.of_members-votes.result.now c.of_members-votes.ensures (quorum pool) page))
+    in rw (p.1, p.2) (uncertified b _ _ _ _ _ _ (closing_plan b turn (records_view c.args.records.now)) c.in_ok-judge_closing.ensures _ _ refl refl
     (g.S.Sealer.meaning c.certify.new.sealer) refl c.in_err-certify.field-0.0
-    (c.in_err-certify.ensures (few_records pool c.args.records.now c.of_members-votes.result.now c.of_members-votes.ensures)))
+    (decided b turn c.args.records.now (g.S.Sealer.meaning c.certify.new.sealer) c.member.result.0 c.args.fill.now.len c.certify.new.fill.len c.args.out.now c.certify.new.out (Err c.in_err-certify.field-0.0) _ c.in_err-certify.ensures c.member.ensures (cc)))
 
 pub returns : goal.returns
 returns g c =
     let b = box_of g.S.Sealer.meaning g.R.Rulebook.admitted g.R.Rulebook.ranked c.args.core.now
-    in let pool = c.args.core.now.settings.pool
-    in let page = c.args.turn.now.page
-    in certified b _ _ _ _ _ _ (closing_plan b (counting_view c.args.turn.now) (records_view c.args.records.now)) c.in_ok-judge_closing.ensures _ _ refl
-    (cert_as b c.member.result.0 Decide 4 Dcid page _ _ c.member.ensures (votes_members pool c.args.records.now c.of_members-votes.result.now c.of_members-votes.ensures (quorum pool) page))
+    in let turn = counting_view c.args.turn.now
+    in certified b _ _ _ _ _ _ (closing_plan b turn (records_view c.args.records.now)) c.in_ok-judge_closing.ensures _ _ refl refl
     (g.S.Sealer.meaning c.certify.new.sealer) refl (seal_bytes c.in_ok-certify.field-0 ∷ []) refl
-    (c.in_ok-certify.ensures (few_records pool c.args.records.now c.of_members-votes.result.now c.of_members-votes.ensures))
+    (decided b turn c.args.records.now (g.S.Sealer.meaning c.certify.new.sealer) c.member.result.0 c.args.fill.now.len c.certify.new.fill.len c.args.out.now c.certify.new.out (Ok (seal_bytes c.in_ok-certify.field-0 ∷ [])) _ c.in_ok-certify.ensures c.member.ensures (cc))

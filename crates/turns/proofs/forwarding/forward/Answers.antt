@@ -37,7 +37,7 @@ returns-in-Lock g c =
     in record {
       ends =
           forwards b _ _ _ _ _ _ (records_view records) p c.in_ok-proposal.ensures (g.S.Sealer.meaning c.send_proposal.new.sealer) refl _ (seal_bytes c.in_ok-send_proposal.field-0 ∷ [])
-          (lock_answers b (records_view records) (records_view c.blank.new.records) p c.in-Lock.page c.size.result c.in-Lock.is c.size.ensures (c.blank.ensures.blanked (omega arith)))
+          (lock_answers b (records_view records) (records_view c.blank.new.records) p c.in-Lock.page _ c.in-Lock.is (cc) (c.blank.ensures.blanked (omega arith)))
           c.in_ok-send_proposal.ensures;
       kept = tt;
     }

@@ -1,17 +1,10 @@
--- A replica that was opened rests with nothing held; and the promise to whoever opens it is the theorem on runs.
-use Rattle.std.proofs.Common.{refl, ap}
-use Rattle.holding.specs.Views.{rules_by, settings_view}
+-- The promises to whoever opens a replica: the theorem on runs, and that every call is a step of one.
 use Rattle.protocol.proofs.Whole.{agreement_of_replicas_lem}
-use Rattle.protocol.specs.State.{View}
 use Rattle.replica.proofs.Stepping.{calls_are_steps}
 use Rattle.replica.proofs.replicas.Replica.open.Goals as goal
 
-pub returns : goal.returns
-returns g c =
-    record {
-      rests =
-          ap (λ (v : View). record { settings = settings_view c.args.settings; sealer = g.S.Sealer.meaning c.args.sealer; rules = rules_by (g.R.Rulebook.admitted c.args.rules) (g.R.Rulebook.ranked c.args.rules); view = v })
-          (c.resting-state.ensures c.args.settings.pool);
-      agreement = agreement_of_replicas_lem;
-      steps = calls_are_steps;
-    }
+pub returns-clause-agreement : goal.returns-clause-agreement
+returns-clause-agreement g c = agreement_of_replicas_lem
+
+pub returns-clause-steps : goal.returns-clause-steps
+returns-clause-steps g c = calls_are_steps
