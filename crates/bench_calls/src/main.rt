@@ -1,5 +1,6 @@
 // Timings, told only where an argument asks for them, so that what is written without one is always the same.
 #![tactic(auto)]
+
 mod calls;
 mod hashing;
 mod making;
