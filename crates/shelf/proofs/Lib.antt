@@ -1,4 +1,4 @@
-mod Changing
-mod Gathering
-mod Parting
-mod Shelving
+pub mod Changing
+pub mod Gathering
+pub mod Parting
+pub mod Shelving

@@ -1,7 +1,8 @@
 -- The part of the array that is in use.
-use Rattle.std.proofs.Common.{◌≡◌, ℕ, ◌<◌, ◌≤◌, min, List, ◌++◌, length, take, drop, sym, ap, ◌∙◌, ⊎_elim, arith}
-use Rattle.std.proofs.lemmas.List.{take_all, take_at, drop_all, append-nil}
+use Rattle.std.proofs.Common.{◌≡◌, ℕ, ◌+◌, ◌-◌, ◌<◌, ◌≤◌, min, List, ◌++◌, length, take, drop, replicate, sym, ap, ◌∙◌, ⊎_elim, arith}
+use Rattle.std.proofs.lemmas.List.{take_all, take_at, drop_all, length-take, length-replicate, append-nil}
 use Rattle.std.proofs.lemmas.Bool.{cases_lt}
+use Rattle.base.specs.Writing.{wrote}
 
 module _ {X : Type 0} where
   -- so many from the front, or all
@@ -27,3 +28,11 @@ module _ {X : Type 0} where
       (λ (ge : length xs ≤ n).
       ap (λ (z : List X). take n (ys ++ z)) (drop_all k xs (omega arith)) ∙ ap (take n) (append-nil ys) ∙ take_all n ys (omega arith))
       (cases_lt n (length xs))
+
+-- the front of a message, written over blank bytes
+pub front_written : (n : ℕ) (m out : List ℕ) → n ≡ min (length m) 760 → (0 + length (take (n - 0) m) ≤ length {A = ℕ} (replicate 760 0) → out ≡ wrote 0 (take (n - 0) m) (replicate 760 0)) → take n out ≡ take 760 m
+front_written n m out is writes =
+    let long = length-take (n - 0) m
+    in let fits : n - 0 ≡ n = omega arith
+    in let blank = length-replicate {A = ℕ} 760 0
+    in ap (take n) (writes (omega arith)) ∙ take_at (take (n - 0) m) _ n (omega arith) ∙ ap (λ k. take k m) (fits ∙ is) ∙ take_most 760 m

@@ -53,6 +53,7 @@ impl Candidates {
     }
 
     // Whether the slip is among them or there is room for it.
+    #[tactic(auto, using(crate::proofs::Shelving::place_by_room))]
     pub fn has_place(&self, slip: &Slip) -> bool
         ensures { result ≡ has_place slip.now (shelf_view self.now) }
     {
@@ -61,6 +62,7 @@ impl Candidates {
     }
 
     // Puts the slip last, without a lock, unless it is among them or there is no room for it.
+    #[tactic(auto, using(crate::proofs::Shelving::shelved_last))]
     pub fn shelve(&mut self, slip: &Slip)
         ensures { shelf_view self.new ≡ (if has_place slip.now (shelf_view self.old) then shelved slip.now (shelf_view self.old) else shelf_view self.old) }
     {
@@ -83,6 +85,7 @@ impl Candidates {
     }
 
     // Takes every lock away.
+    #[tactic(auto, using(crate::proofs::Shelving::changed))]
     pub fn unlock(&mut self)
         ensures { shelf_view self.new ≡ unlocked (shelf_view self.old) }
     {

@@ -17,6 +17,7 @@ pub struct Held {
 
 impl Held {
     // Keeps the first 760 bytes of the message.
+    #[tactic(auto, using(crate::proofs::Parting::front_written))]
     pub fn new(slip: Slip, round: Round, message: &[u8]) -> Held
         ensures { held_view result ≡ record { slip = slip; round = round.0; bytes = take 760 message.now } }
     {

@@ -1,13 +1,8 @@
 use Rattle.std.proofs.Common.{arith}
 use Rattle.shelf.specs.Views.{shelf_view}
-use Rattle.shelf.proofs.Shelving.{shelved_last, shelved_known, shelved_full}
+use Rattle.shelf.proofs.Shelving.{shelved_known, shelved_full}
 use Rattle.shelf.proofs.candidates.Candidates.shelve.Goals as goal
 use Rattle.shelf.proofs.candidates.Candidates.shelve.Goals.{else-self-all-via-then-self-all+else-not-knows, else-self-all-via-else-self-all}
-
-pub returns-then-not-knows : goal.returns-then-not-knows
-returns-then-not-knows c =
-    shelved_last c.args.slip.now c.args.self.now.slots c.as_slice.result.now c.args.self.now.len
-    (omega arith) (omega arith) c.as_slice.ensures c.if-not-knows.ensures
 
 pub returns-else-self-all : goal.returns-else-self-all
 returns-else-self-all c =
