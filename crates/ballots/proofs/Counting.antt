@@ -38,7 +38,7 @@ take_next (suc k) y ys h = let e : suc k - 1 ≡ k = omega arith in ap (λ m. y 
 
 module _ {X : Type 0} (test : X → Bool) (seal : X → List ℕ) (xs : List X) (votes : List Vote) (room : ℕ) where
   -- the votes that are filled in, with those still to come
-  abbrev pub whole : ℕ → ℕ → List (Signed (List ℕ))
+  unfoldable pub whole : ℕ → ℕ → List (Signed (List ℕ))
   whole i filled = map signed_by (take filled votes) ++ take (room - filled) (votes_from test seal i (drop i xs))
 
   step : (i : ℕ) (x : X) → i < length xs → x ≡ get_or xs i x → votes_from test seal i (drop i xs) ≡ cond (test x) (record { signer = i; seal = seal x } ∷ votes_from test seal (i + 1) (drop (i + 1) xs)) (votes_from test seal (i + 1) (drop (i + 1) xs))
@@ -48,17 +48,20 @@ module _ {X : Type 0} (test : X → Bool) (seal : X → List ℕ) (xs : List X) 
 
   -- a record that is passed over
   pub whole_less : (i filled : ℕ) (x : X) → i < length xs → x ≡ get_or xs i x → test x ≡ false → whole i filled ≡ whole (i + 1) filled
+  unfolding whole
   whole_less i filled x more is not_so =
       ap (λ v. map signed_by (take filled votes) ++ take (room - filled) v)
       (step i x more is ∙ ap (λ b. cond b (record { signer = i; seal = seal x } ∷ votes_from test seal (i + 1) (drop (i + 1) xs)) (votes_from test seal (i + 1) (drop (i + 1) xs))) not_so)
 
   -- enough of them, and no more of them
   pub whole_full : (i filled : ℕ) → room ≤ filled → whole i filled ≡ map signed_by (take filled votes)
+  unfolding whole
   whole_full i filled h =
       let none : room - filled ≡ 0 = omega arith
       in ap (λ k. map signed_by (take filled votes) ++ take k (votes_from test seal i (drop i xs))) none ∙ append-nil (map signed_by (take filled votes))
 
   pub whole_all : (i filled : ℕ) → length xs ≤ i → whole i filled ≡ map signed_by (take filled votes)
+  unfolding whole
   whole_all i filled h =
       ap (λ v. map signed_by (take filled votes) ++ take (room - filled) v) (at_drop_all (votes_from test seal i) xs i h)
       ∙ ap (λ v. map signed_by (take filled votes) ++ v) (take_none (room - filled))
@@ -68,8 +71,16 @@ module _ {X : Type 0} (test : X → Bool) (seal : X → List ℕ) (xs : List X) 
       take_none zero = refl
       take_none (suc k) = refl
 
+-- nothing is filled in yet
+pub whole_none : {X : Type 0} (test : X → Bool) (seal : X → List ℕ) (xs : List X) (votes : List Vote) (room : ℕ) → whole test seal xs votes room 0 0 ≡ take room (votes_from test seal 0 xs)
+unfolding whole
+whole_none test seal xs votes room =
+    let all : room - 0 ≡ room = omega arith
+    in ap (λ k. take k (votes_from test seal 0 xs)) all
+
 -- a vote that is filled in
 pub whole_more : {X : Type 0} (test : X → Bool) (seal : X → List ℕ) (xs : List X) (votes : List Vote) (room i filled : ℕ) (x : X) (v : Vote) → i < length xs → x ≡ get_or xs i x → test x ≡ true → signed_by v ≡ record { signer = i; seal = seal x } → filled < room → filled < length votes → whole test seal xs votes room i filled ≡ whole test seal xs (set votes filled v) room (i + 1) (filled + 1)
+unfolding whole
 whole_more test seal xs votes room i filled x v more is so says less fits =
     let later = votes_from test seal (i + 1) (drop (i + 1) xs)
     in let some : 0 < room - filled = omega arith

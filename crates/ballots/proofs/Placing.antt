@@ -26,8 +26,11 @@ take_of_set (suc n) (y ∷ xs) zero x = refl
 take_of_set (suc n) (y ∷ xs) (suc i) x = ap (λ ys. y ∷ ys) (take_of_set n xs i x)
 
 -- ten places with nothing in them
-pub none_stated : (n : ℕ) → n ≤ 10 → latest_list (take n (replicate 10 None)) ≡ replicate n None
-none_stated n h = ap latest_list (take-replicate n 10 None h) ∙ map_replicate (option_map latest_view) n None
+pub none_stated : (n : ℕ) (xs : List (Option Latest)) → n ≤ 10 → xs ≡ replicate 10 None → latest_list (take n xs) ≡ replicate n None
+none_stated n xs h is =
+    ap (λ ys. latest_list (take n ys)) is
+    ∙ ap latest_list (take-replicate n 10 None h)
+    ∙ map_replicate (option_map latest_view) n None
 
 pub stated_at : (n : ℕ) (xs : List (Option Latest)) (i : ℕ) → i < n → option_map latest_view (get_or xs i None) ≡ get_or (latest_list (take n xs)) i None
 stated_at n xs i h = sym (get_d_seen (option_map latest_view) (take n xs) i None ∙ ap (option_map latest_view) (get_or-take n xs i None h))

@@ -51,6 +51,7 @@ impl Ballot<Slip> for CommitRecord {
 }
 
 // Blanks the first n records; nothing where there are fewer.
+#[tactic(auto, using(crate::proofs::Placing::blanked_more))]
 pub fn blank(records: &mut [CommitRecord], n: usize)
     ensures blanked { n ≤ length records.old → records_view records.new ≡ replicate n None ++ drop n (records_view records.old) }
     ensures kept { length records.old < n → records_view records.new ≡ records_view records.old }
@@ -64,6 +65,7 @@ pub fn blank(records: &mut [CommitRecord], n: usize)
 }
 
 // Keeps the commit in its member's record, unless that reads as the page already; nothing where there is no such record.
+#[tactic(auto, using(crate::proofs::Placing::noted_new))]
 pub fn note(records: &mut [CommitRecord], member: Member, commit: Commit, page: &Slip)
     ensures { records_view records.new ≡ noted page.now member.0 (committed commit) (records_view records.old) }
 {

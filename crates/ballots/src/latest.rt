@@ -29,6 +29,7 @@ pub struct Statements([Option<Latest>; 10]);
 
 impl Statements {
     // No member has stated anything.
+    #[tactic(auto, using(crate::proofs::Placing::none_stated))]
     pub fn empty() -> Statements
         ensures { (n : ℕ) → n ≤ 10 → statements_view n result ≡ replicate n None }
     {
@@ -36,6 +37,7 @@ impl Statements {
     }
 
     // Keeps the latest statement of that member in place of the one before; nothing where there is no such place.
+    #[tactic(auto, using(crate::proofs::Placing::stated_set))]
     pub fn set(&mut self, member: Member, latest: Latest)
         ensures { (n : ℕ) → n ≤ 10 → statements_view n self.new ≡ slice_set (statements_view n self.old) member.0 (Some (latest_view latest)) }
     {
@@ -45,6 +47,7 @@ impl Statements {
     }
 
     // The latest statement of that member; none where there is no such place.
+    #[tactic(auto, using(crate::proofs::Placing::stated_at))]
     pub fn get(&self, member: Member) -> Option<Latest>
         ensures place { (n : ℕ) → n ≤ 10 → member.0 < n → option_map latest_view result ≡ slice_index_or (statements_view n self.now) member.0 None }
         ensures past { 10 ≤ member.0 → result ≡ None }
@@ -105,6 +108,7 @@ impl Ballot<Asked> for Option<Latest> {
 }
 
 // How many latest statements are of the round.
+#[tactic(auto, using(crate::proofs::Counting::tally_map))]
 pub fn in_round(latest: &[Option<Latest>], round: Round) -> usize
     ensures { result ≡ tally (of_round round.0) (latest_list latest.now) }
 {
@@ -145,6 +149,7 @@ fn higher(round: Round, other: Option<Round>) -> Round
 
 // The highest round of a latest statement that is ahead, not below its own for a resting replica and else above it,
 // and that at least tolerance + 2 latest statements are of.
+#[tactic(auto, using(crate::proofs::Calling::called))]
 pub fn highest_called(
     latest: &[Option<Latest>],
     own: Round,
@@ -182,6 +187,7 @@ fn is_agreed(latest: &[Option<Latest>], quorum: usize, round: Round, slip: Slip)
 }
 
 // The slip that a quorum of latest statements of the round names.
+#[tactic(auto, using(crate::proofs::Calling::agreed_here, crate::proofs::Calling::not_agreed, crate::proofs::Calling::not_named))]
 pub fn agreed(latest: &[Option<Latest>], quorum: usize, round: Round) -> Option<Slip>
     ensures { result ≡ agreed_of quorum round.0 (latest_list latest.now) (latest_list latest.now) }
 {

@@ -39,6 +39,7 @@ pub fn count<Q, B: Ballot<Q>>(records: &[B], asked: &Q) -> usize
 
 // Fills `votes` with the votes of the lowest members whose records are for what is asked, a quorum at most, as far as
 // there is room; record i is of member i. Returns how many there are.
+#[tactic(auto, using(crate::proofs::Counting::whole_none, crate::proofs::Counting::filled_more, crate::proofs::Counting::filled_same, crate::proofs::Counting::filled_all))]
 pub fn lowest<Q, B: Ballot<Q>>(records: &[B], asked: &Q, quorum: usize, votes: &mut [Vote]) -> usize
     ensures within { result ≤ length votes.new }
     ensures votes { quorum ≤ length votes.old → length records.now ≤ 256 → map signed_by (take result votes.new) ≡ take quorum (votes_from (λ b. B.backed b asked.now) (λ b. B.given b asked.now) 0 records.now) }

@@ -1,11 +1,7 @@
 use Rattle.std.proofs.Common.{sym}
-use Rattle.ballots.proofs.Placing.{noted_new, noted_again, noted_past}
+use Rattle.ballots.proofs.Placing.{noted_again, noted_past}
 use Rattle.ballots.proofs.commits.note.Goals as goal
 use Rattle.ballots.proofs.commits.note.Goals.{else-i-records-via-then-i-records+else-not-backs, else-i-records-via-else-i-records}
-
-pub returns-then-not-backs : goal.returns-then-not-backs
-returns-then-not-backs c =
-    noted_new c.args.page.now c.args.member.0 c.args.commit c.args.records.now (sym c.if-not-backs.ensures)
 
 pub returns-else-i-records : goal.returns-else-i-records
 returns-else-i-records c =
