@@ -1,12 +1,45 @@
--- The laws of a ranking by a list of numbers that tells the slip, and that both rulebooks rank so.
-use Rattle.std.specs.Prelude.{◌≡◌, ℕ, ◌-◌, Bool, true, false, List, ◌∷◌, ◌++◌, length, drop, slice_index, refl}
+-- The laws of a ranking by a list of numbers that tells the slip, and that both rulebooks rank so. No contract cites these lemmas:
+-- they stand here since the rulebooks' impls show their laws by them, and an impl may name only what stands in specs/.
+use Rattle.std.specs.Prelude.{◌≡◌, ℕ, ◌-◌, Bool, true, false, List, [], ◌∷◌, ◌++◌, length, drop, slice_index, refl}
 use Rattle.std.proofs.Common.{true≢false, inl, inr, sym, ap, ◌∙◌, arith}
 use Rattle.base.specs.Slips.{SlipFits}
 use Rattle.base.proofs.Distinct.{split}
 use Rattle.base.specs.declared.slips.Slip.{Slip}
 use Rattle.rules.specs.Order.{higher, ExactlyOne, Ranks, Transitive}
 use Rattle.rules.specs.Pages.{receipts_key, receipts_above, roster_key, roster_above}
-use Rattle.rules.specs.Lexical.{higher_itself, higher_once, higher_else, higher_trans}
+use Rattle.std.proofs.lemmas.Bool.Decides.{nat_tests}
+
+-- the lexicographic order of lists of numbers ----------------------------------------------------------------------------
+
+-- none is above itself
+pub higher_itself : (xs : List ℕ) → higher xs xs ≡ false
+higher_itself [] = refl
+higher_itself (x ∷ xs) = let e = higher_itself xs in grind (arith, nat_tests)
+
+-- not both are above
+pub higher_once : (xs ys : List ℕ) → higher xs ys ≡ true → higher ys xs ≡ false
+higher_once [] ys h = absurd (true≢false (sym h))
+higher_once (x ∷ xs) [] h = refl
+higher_once (x ∷ xs) (y ∷ ys) h = let f = higher_once xs ys in grind (arith, nat_tests)
+
+-- where neither is above they are one
+pub higher_else : (xs ys : List ℕ) → higher xs ys ≡ false → higher ys xs ≡ false → xs ≡ ys
+higher_else [] [] h g = refl
+higher_else [] (y ∷ ys) h g = absurd (true≢false g)
+higher_else (x ∷ xs) [] h g = absurd (true≢false h)
+higher_else (x ∷ xs) (y ∷ ys) h g =
+    let e : x ≡ y = grind (arith, nat_tests)
+    in let h' : higher xs ys ≡ false = grind (arith, nat_tests)
+    in let g' : higher ys xs ≡ false = grind (arith, nat_tests)
+    in λ i. e i ∷ higher_else xs ys h' g' i
+
+pub higher_trans : (xs ys zs : List ℕ) → higher xs ys ≡ true → higher ys zs ≡ true → higher xs zs ≡ true
+higher_trans [] ys zs h g = absurd (true≢false (sym h))
+higher_trans (x ∷ xs) [] zs h g = absurd (true≢false (sym g))
+higher_trans (x ∷ xs) (y ∷ ys) [] h g = refl
+higher_trans (x ∷ xs) (y ∷ ys) (z ∷ zs) h g = let f = higher_trans xs ys zs in grind (arith, nat_tests)
+
+-- rankings ----------------------------------------------------------------------------------------------------------------
 
 module _ (key : Slip → List ℕ) where
   by : (a b : Slip) (p q : Bool) → higher (key a) (key b) ≡ p → higher (key b) (key a) ≡ q → (key a ≡ key b → a ≡ b) → ExactlyOne (higher (key a) (key b) ≡ true) (higher (key b) (key a) ≡ true) (a ≡ b)

@@ -1,4 +1,3 @@
 pub mod Order
 pub mod Pages
 pub mod Laws
-pub mod Lexical

@@ -1,7 +1,7 @@
 use Rattle.std.proofs.Common.{◌≡◌, ◌+◌, drop, sym, ◌∙◌, arith}
 use Rattle.std.proofs.lemmas.Bool.Decides.{nat_tests}
 use Rattle.rules.specs.Order.{higher}
-use Rattle.rules.specs.Lexical.{higher_drop, higher_last}
+use Rattle.rules.proofs.Lexical.{higher_drop, higher_last}
 use Rattle.rules.proofs.ranking.bytes_above.Goals as goal
 
 pub returns-then-a-i : goal.returns-then-a-i

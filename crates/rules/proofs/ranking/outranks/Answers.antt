@@ -4,7 +4,7 @@ use Rattle.std.proofs.lemmas.Slice.Eq.{slice_eq-Decides}
 use Rattle.std.proofs.lemmas.Bool.Decides.{nat_tests, Decides-eqb, not_from_Decides}
 use Rattle.std.proofs.Math.Bool.{not-not}
 use Rattle.base.specs.declared.slips.Mark.{Mark}
-use Rattle.rules.specs.Lexical.{first_apart, first_same}
+use Rattle.rules.proofs.Lexical.{first_apart, first_same}
 use Rattle.rules.proofs.ranking.outranks.Goals as goal
 
 -- what `!=` answers of two marks tells whether their bytes are one

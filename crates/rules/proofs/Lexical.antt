@@ -1,38 +1,10 @@
 -- The lexicographic order of lists of numbers.
-use Rattle.std.specs.Prelude.{◌≡◌, ℕ, ◌+◌, ◌-◌, ◌<◌, min, true, false, ◌&&◌, ◌||◌, List, [], ◌∷◌, ◌++◌, length, drop, ◌==◌, ◌≢◌, nat_lt, slice_index, refl}
-use Rattle.std.proofs.Common.{add-one, true≢false, ⊎_elim, sym, ap, ◌∙◌, arith, drop-cons}
+use Rattle.std.specs.Prelude.{◌≡◌, ℕ, ◌+◌, ◌-◌, ◌<◌, min, ◌&&◌, ◌||◌, List, [], ◌∷◌, ◌++◌, length, drop, ◌==◌, ◌≢◌, nat_lt, slice_index, refl}
+use Rattle.std.proofs.Common.{add-one, ⊎_elim, sym, ap, ◌∙◌, arith, drop-cons}
 use Rattle.std.proofs.lemmas.List.{length-drop}
 use Rattle.std.proofs.lemmas.Bool.{cases_eq}
 use Rattle.std.proofs.lemmas.Bool.Decides.{nat_tests}
 use Rattle.rules.specs.Order.{higher}
-
--- none is above itself
-pub higher_itself : (xs : List ℕ) → higher xs xs ≡ false
-higher_itself [] = refl
-higher_itself (x ∷ xs) = let e = higher_itself xs in grind (arith, nat_tests)
-
--- not both are above
-pub higher_once : (xs ys : List ℕ) → higher xs ys ≡ true → higher ys xs ≡ false
-higher_once [] ys h = absurd (true≢false (sym h))
-higher_once (x ∷ xs) [] h = refl
-higher_once (x ∷ xs) (y ∷ ys) h = let f = higher_once xs ys in grind (arith, nat_tests)
-
--- where neither is above they are one
-pub higher_else : (xs ys : List ℕ) → higher xs ys ≡ false → higher ys xs ≡ false → xs ≡ ys
-higher_else [] [] h g = refl
-higher_else [] (y ∷ ys) h g = absurd (true≢false g)
-higher_else (x ∷ xs) [] h g = absurd (true≢false h)
-higher_else (x ∷ xs) (y ∷ ys) h g =
-    let e : x ≡ y = grind (arith, nat_tests)
-    in let h' : higher xs ys ≡ false = grind (arith, nat_tests)
-    in let g' : higher ys xs ≡ false = grind (arith, nat_tests)
-    in λ i. e i ∷ higher_else xs ys h' g' i
-
-pub higher_trans : (xs ys zs : List ℕ) → higher xs ys ≡ true → higher ys zs ≡ true → higher xs zs ≡ true
-higher_trans [] ys zs h g = absurd (true≢false (sym h))
-higher_trans (x ∷ xs) [] zs h g = absurd (true≢false (sym g))
-higher_trans (x ∷ xs) (y ∷ ys) [] h g = refl
-higher_trans (x ∷ xs) (y ∷ ys) (z ∷ zs) h g = let f = higher_trans xs ys zs in grind (arith, nat_tests)
 
 -- what both begin with decides nothing
 pub higher_same : (a xs ys : List ℕ) → higher (a ++ xs) (a ++ ys) ≡ higher xs ys
