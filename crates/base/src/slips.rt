@@ -10,26 +10,11 @@ ghost use Rattle.std.proofs.Common.{rules};
 use crate::writing::{all_zero, four_at, put};
 
 // The digest by which a page is known.
-#[derive(Clone, Copy, Debug)]
+#[derive(Clone, Copy, PartialEq, Eq, PartialOrd, Ord, Debug)]
 pub struct Mark(pub [u8; 32]);
 
-impl PartialEq for Mark {
-    ghost eq = { on (λ m. m.0) (pointwise nat_eq) };
-
-    ghost laws = { Prim.search (comparing, rules) };
-
-    fn eq(&self, other: &Mark) -> bool
-        ensures same { result ≡ on (λ m. m.0) (pointwise nat_eq) self.now other.now }
-        ensures decides { Decides result (self.now ≡ other.now) }
-    {
-        let a = &self.0;
-        let b = &other.0;
-        a == b
-    }
-}
-
 // A candidate page: the mark of the page before, its own mark, how many lots it holds, who made it.
-#[derive(Clone, Copy, PartialEq, Debug)]
+#[derive(Clone, Copy, PartialEq, Eq, Debug)]
 pub struct Slip {
     pub parent: Mark,
     pub own: Mark,
@@ -94,22 +79,12 @@ fn mark_at(bytes: &[u8], at: usize) -> Mark
 pub fn one_page(a: &Slip, b: &Slip) -> bool
     ensures { result ≡ one_page a.now b.now }
 {
-    equal(a, b)
-}
-
-fn equal(a: &Slip, b: &Slip) -> bool
-    ensures { Decides result (a.now ≡ b.now) }
-{
-    a == b
+    *a == *b
 }
 
 // Whether two pages, each a slip or none, are one.
 pub fn same_page(a: &Option<Slip>, b: &Option<Slip>) -> bool
     ensures { result ≡ same_page a.now b.now }
 {
-    match (a, b) {
-        (Some(a), Some(b)) => one_page(a, b),
-        (None, None) => true,
-        _ => false,
-    }
+    a == b
 }
