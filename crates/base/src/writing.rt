@@ -4,6 +4,7 @@ ghost use Rattle.base.specs.Numbers.{two, four, all_zero};
 ghost use Rattle.base.specs.Writing.{wrote};
 
 // Writes the bytes from `at` on, all of them or, where they do not fit, none. Says whether they fit.
+#[tactic(auto, using(crate::proofs::Wrote::put_mid_wrote))]
 pub fn put(out: &mut [u8], at: usize, bytes: &[u8]) -> bool
     ensures fits { Decides result (at + length bytes.now ≤ length out.old) }
     ensures written { at + length bytes.now ≤ length out.old → out.new ≡ wrote at bytes.now out.old }
