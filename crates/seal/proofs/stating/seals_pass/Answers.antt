@@ -1,4 +1,4 @@
-use Rattle.seal.proofs.Rows.{singles_pass, rows_pass}
+use Rattle.seal.specs.Made.{singles_pass, rows_pass}
 use Rattle.seal.proofs.stating.seals_pass.Goals as goal
 
 pub returns : goal.returns
