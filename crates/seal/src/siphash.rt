@@ -79,6 +79,7 @@ fn go_on_after(state: State, first: u8, rest: &[u8]) -> u64
 }
 
 // One word of the message.
+#[tactic(auto, unfolding(crate::specs::Sip::compress))]
 fn take_in(s: State, word: u64) -> State
     ensures { result ≡ compress s word }
 {
@@ -92,6 +93,7 @@ fn take_in(s: State, word: u64) -> State
     }
 }
 
+#[tactic(auto, unfolding(crate::specs::Sip::finish))]
 fn close(s: State) -> u64
     ensures { result ≡ finish s }
 {
@@ -102,6 +104,7 @@ fn close(s: State) -> u64
     (t.v0 ^ t.v1) ^ (t.v2 ^ t.v3)
 }
 
+#[tactic(auto, unfolding(crate::specs::Sip::sip_round))]
 fn round(s: State) -> State
     ensures { result ≡ sip_round s }
 {
@@ -121,6 +124,7 @@ fn round(s: State) -> State
     }
 }
 
+#[tactic(auto, unfolding(crate::specs::Sip::add))]
 fn plus(a: u64, b: u64) -> u64
     ensures { result ≡ add a b }
 {

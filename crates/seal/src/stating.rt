@@ -32,6 +32,7 @@ pub fn seal_statement<S: Sealer>(sealer: &mut S, statement: &Statement) -> Resul
 }
 
 // What passes between members: a seal of either kind is recognised in its maker's name by each member with the keys.
+#[tactic(auto, using(crate::specs::Made::singles_pass, crate::specs::Made::rows_pass))]
 pub fn seals_pass()
     ensures singles { SinglesPass }
     ensures rows { RowsPass }

@@ -1,4 +1,4 @@
-use Rattle.std.proofs.Common.{◌≡◌, length, sym, ◌∙◌, rules}
+use Rattle.std.proofs.Common.{sym, ◌∙◌, rules}
 use Rattle.seal.proofs.Little.{eight_all}
 use Rattle.seal.proofs.siphash.word.Goals as goal
 

@@ -1,4 +1,4 @@
-use Rattle.std.proofs.Common.{◌≡◌, ◌*◌, sym, refl, ap, ◌∙◌, add-one, arith}
+use Rattle.std.proofs.Common.{◌≡◌, ◌*◌, sym, ap, ◌∙◌, add-one, arith}
 use Rattle.base.specs.Writing.{wrote}
 use Rattle.base.proofs.Wrote.{put_next}
 use Rattle.seal.specs.Tags.{tag_of, key_of, tags_below, row_seal}
