@@ -3,7 +3,7 @@
 
 use seal::siphash::siphash_after;
 use std::time::Instant;
-use std::{env, io};
+use std::{array, env, io};
 
 const RUNS: u32 = 2_000_000;
 
@@ -14,8 +14,7 @@ fn main(rt: HostRuntime) -> io::Result<()> {
     if words < 2 {
         return println!(rt; "bench: give any argument for the timings");
     }
-    let mut statement = [0u8; 100];
-    fill(&mut statement);
+    let statement: [u8; 100] = array::from_fn(|i| i as u8);
     // 84, and the compiler cannot know it
     let length = 82 + words.min(2);
     let start = Instant::now(&rt)?;
@@ -27,19 +26,7 @@ fn main(rt: HostRuntime) -> io::Result<()> {
     println!(rt; "proved, 85 bytes: {whole}.{part} ns a tag (last {last:016x})")
 }
 
-fn fill(bytes: &mut [u8]) {
-    let mut next = 0u8;
-    for byte in bytes.iter_mut() {
-        *byte = next;
-        next = next.wrapping_add(1);
-    }
-}
-
 // Each tag's first byte comes from the tag before, so that no two can be made at once.
 fn tags(statement: &[u8], runs: u32) -> u64 {
-    let mut tag = 0u64;
-    for _ in 0..runs {
-        tag = siphash_after(&KEY, (tag % 256) as u8, statement);
-    }
-    tag
+    (0..runs).fold(0, |tag, _| siphash_after(&KEY, (tag % 256) as u8, statement))
 }

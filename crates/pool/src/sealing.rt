@@ -5,10 +5,14 @@ use base::refusals::Refusal;
 use base::seals::Seal;
 use base::slips::{Mark, Slip};
 use base::statements::{Statement, Word};
-use seal::row::KeyRow;
+use seal::keyed::Keyed;
+use seal::kinds::SealKind;
+use seal::ring::Keys;
+use seal::row::{KeyRow, Row};
 use seal::sealers::{Checker, Sealer};
-use seal::single::SingleKey;
+use seal::single::{Single, SingleKey};
 use seal::stating::seal_statement;
+use std::array;
 
 // The key that members a and b share; a member's own key is the one it shares with itself.
 fn key(a: u8, b: u8) -> [u8; 16] {
@@ -19,49 +23,18 @@ fn key(a: u8, b: u8) -> [u8; 16] {
 }
 
 // Every member's own key, known to all.
-fn own_keys() -> [[u8; 16]; 10] {
-    [
-        key(0, 0),
-        key(1, 1),
-        key(2, 2),
-        key(3, 3),
-        key(4, 4),
-        key(5, 5),
-        key(6, 6),
-        key(7, 7),
-        key(8, 8),
-        key(9, 9),
-    ]
+fn own_keys() -> Keys {
+    array::from_fn(|i| key(i as u8, i as u8))
 }
 
 // The row of keys that one member shares with each.
-fn key_row(a: u8) -> [[u8; 16]; 10] {
-    [
-        key(a, 0),
-        key(a, 1),
-        key(a, 2),
-        key(a, 3),
-        key(a, 4),
-        key(a, 5),
-        key(a, 6),
-        key(a, 7),
-        key(a, 8),
-        key(a, 9),
-    ]
+fn key_row(a: u8) -> Keys {
+    array::from_fn(|i| key(a, i as u8))
 }
 
-fn single(member: u8, left: u32) -> anyhow::Result<SingleKey> {
-    match SingleKey::new(own_keys(), Member(member), left) {
-        Ok(sealer) => Ok(sealer),
-        Err(_) => Err(anyhow!("no such sealer")),
-    }
-}
-
-fn row(member: u8, left: u32) -> anyhow::Result<KeyRow> {
-    match KeyRow::new(key_row(member), Member(member), left) {
-        Ok(sealer) => Ok(sealer),
-        Err(_) => Err(anyhow!("no such sealer")),
-    }
+// A member's sealer.
+fn keyed<K: SealKind>(keys: Keys, member: u8, left: u32) -> anyhow::Result<Keyed<K>> {
+    Keyed::new(keys, Member(member), left).map_err(|_| anyhow!("no such sealer"))
 }
 
 fn statement(word: Word) -> Statement {
@@ -132,28 +105,19 @@ fn refused(rt: &HostRuntime, why: Refusal) -> anyhow::Result<()> {
     Ok(())
 }
 
-fn with_single(rt: &HostRuntime) -> anyhow::Result<()> {
-    println!(rt; "Single keys, two seals:")?;
-    let mut sealer = single(2, 2)?;
+// Member 2 makes a seal, at which the others look, and then seals until its sealer is worn.
+fn with_kind<K: SealKind, F: Fn(u8) -> Keys>(rt: &HostRuntime, keys: F, left: u32) -> anyhow::Result<()>
+    requires { F.IsAlwaysCallable keys }
+{
+    let mut sealer = keyed::<K>(keys(2), 2, left)?;
     if let Some(seal) = makes(rt, &mut sealer)? {
         for who in [0u8, 1, 3, 4, 5, 6, 7, 8, 9] {
-            looks(rt, who, &single(who, 0)?, &seal)?;
+            looks(rt, who, &keyed::<K>(keys(who), who, 0)?, &seal)?;
         }
     }
-    let _ = makes(rt, &mut sealer)?;
-    let _ = makes(rt, &mut sealer)?;
-    Ok(())
-}
-
-fn with_rows(rt: &HostRuntime) -> anyhow::Result<()> {
-    println!(rt; "Rows of keys, one seal:")?;
-    let mut sealer = row(2, 1)?;
-    if let Some(seal) = makes(rt, &mut sealer)? {
-        for who in [0u8, 1, 3, 4, 5, 6, 7, 8, 9] {
-            looks(rt, who, &row(who, 0)?, &seal)?;
-        }
+    for _ in 0..left {
+        let _ = makes(rt, &mut sealer)?;
     }
-    let _ = makes(rt, &mut sealer)?;
     Ok(())
 }
 
@@ -170,7 +134,9 @@ fn outside(rt: &HostRuntime) -> anyhow::Result<()> {
 }
 
 pub fn seals(rt: &HostRuntime) -> anyhow::Result<()> {
-    with_single(rt)?;
-    with_rows(rt)?;
+    println!(rt; "Single keys, two seals:")?;
+    with_kind::<Single, _>(rt, |_| own_keys(), 2)?;
+    println!(rt; "Rows of keys, one seal:")?;
+    with_kind::<Row, _>(rt, key_row, 1)?;
     outside(rt)
 }

@@ -6,7 +6,7 @@ ghost use Rattle.rules.specs.Pages.{rank_key};
 use base::slips::Mark;
 
 // What is compared of a slip, one after the other: the larger one is above.
-#[derive(Clone, Copy)]
+#[derive(Clone, Copy, PartialEq, Eq, PartialOrd, Ord, Debug)]
 pub struct Rank {
     pub first: u32,
     pub own: Mark,
@@ -18,27 +18,7 @@ pub struct Rank {
 pub fn outranks(a: &Rank, b: &Rank) -> bool
     ensures { result ≡ higher (rank_key a.now) (rank_key b.now) }
 {
-    if a.first != b.first {
-        return a.first > b.first;
-    }
-    if a.own != b.own {
-        return bytes_above(&a.own.0, &b.own.0);
-    }
-    if a.second != b.second {
-        return a.second > b.second;
-    }
-    bytes_above(&a.parent.0, &b.parent.0)
-}
-
-// Whether the first bytes are above the second: the first byte that differs decides, then the length.
-pub(crate) fn bytes_above(a: &[u8], b: &[u8]) -> bool
-    ensures { result ≡ higher a.now b.now }
-{
-    let both = a.len().min(b.len());
-    for i in 0..both {
-        if a[i] != b[i] {
-            return a[i] > b[i];
-        }
-    }
-    a.len() > b.len()
+    // the two own marks are of one length
+    let (_own, _other): (&[u8], &[u8]) = (&a.own.0, &b.own.0);
+    a > b
 }

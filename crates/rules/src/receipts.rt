@@ -30,7 +30,7 @@ impl Rulebook for Receipts {
     ghost transitive = { λ s. key_transitive receipts_key };
 
     fn admits(&self, _height: Height, slip: &Slip) -> bool {
-        1 <= slip.lots && slip.lots <= 200 && slip.maker < 10
+        (1..=200).contains(&slip.lots) && slip.maker < 10
     }
 
     fn above(&self, a: &Slip, b: &Slip) -> bool {
@@ -38,6 +38,7 @@ impl Rulebook for Receipts {
     }
 }
 
+// Kept: a slip has another rank in each rulebook, so neither is its `From`.
 fn by_lots(slip: &Slip) -> Rank
     ensures { rank_key result ≡ receipts_key slip.now }
 {

@@ -34,7 +34,7 @@ impl Rulebook for Roster {
     ghost transitive = { λ s. key_transitive roster_key };
 
     fn admits(&self, _height: Height, slip: &Slip) -> bool {
-        slip.lots == 1 && slip.maker < 10 && self.makers[slip.maker as usize]
+        slip.lots == 1 && self.makers.get(slip.maker as usize) == Some(&true)
     }
 
     fn above(&self, a: &Slip, b: &Slip) -> bool {
@@ -42,6 +42,7 @@ impl Rulebook for Roster {
     }
 }
 
+// Kept: a slip has another rank in each rulebook, so neither is its `From`.
 fn by_maker(slip: &Slip) -> Rank
     ensures { rank_key result ≡ roster_key slip.now }
 {

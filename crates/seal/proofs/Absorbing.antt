@@ -1,8 +1,17 @@
 -- A message taken in word by word.
-use Rattle.std.proofs.Common.{◌≡◌, ℕ, suc, ◌+◌, ◌-◌, ◌*◌, ◌/◌, ◌%◌, ◌^◌, ◌<◌, ◌≤◌, List, ◌∷◌, length, take, drop, sym, ap, ◌∙◌, arith, length-drop}
+use Rattle.std.proofs.Common.{◌≡◌, ℕ, zero, suc, ◌+◌, ◌-◌, ◌*◌, ◌/◌, ◌%◌, ◌^◌, ◌<◌, ◌≤◌, List, [], ◌∷◌, length, get_or, refl, take, drop, sym, ap, ◌∙◌, arith, length-drop}
 use Rattle.std.proofs.lemmas.List.{drop-drop}
+use Rattle.std.specs.Simd.{first_chunks}
 use Rattle.seal.specs.Sip.{little, compress, absorb, finish, onward}
 use Rattle.seal.specs.declared.siphash.State.{State}
+
+-- the words, as chunks of eight bytes
+pub chunk : (n i : ℕ) (m : List ℕ) → i < n → get_or (first_chunks 8 n m) i [] ≡ take 8 (drop (8 * i) m)
+chunk zero i m h = absurd (omega arith)
+chunk (suc n) zero m h = refl
+chunk (suc n) (suc i) m h =
+    let next : 8 + 8 * i ≡ 8 * suc i = omega arith
+    in chunk n i (drop 8 m) (omega arith) ∙ ap (take 8) (drop-drop (8 * i) 8 m ∙ ap (λ k. drop k m) next)
 
 -- one word of n
 pub absorb_more : (n i : ℕ) (s : State) (m : List ℕ) → i < n

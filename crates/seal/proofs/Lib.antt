@@ -1,5 +1,3 @@
 pub mod Little
 pub mod Absorbing
-pub mod Same
 pub mod Sealings
-pub mod Rows

@@ -1,6 +1,8 @@
 -- Numbers from bytes, the least significant first.
-use Rattle.std.proofs.Common.{◌≡◌, ℕ, suc, ◌+◌, ◌*◌, ◌^◌, ◌<◌, ◌≤◌, List, [], ◌∷◌, length, get_or, take, drop, sym, refl, ap, ◌∙◌, add-one, arith, drop-cons, pow_mono}
+use Rattle.std.proofs.Common.{◌≡◌, ℕ, zero, suc, ◌+◌, ◌*◌, ◌^◌, ◌<◌, ◌≤◌, List, [], ◌∷◌, ◌++◌, length, get_or, take, drop, sym, refl, ap, ◌∙◌, add-one, arith, drop-cons, pow_mono}
 use Rattle.std.proofs.lemmas.Nat.{pow-add}
+use Rattle.std.proofs.lemmas.List.{take_all}
+use Rattle.std.specs.Int.{w64, from_le_bytes}
 use Rattle.seal.specs.Sip.{little}
 
 -- the front of what stands from a place on
@@ -21,15 +23,30 @@ eight bs i h =
     in let e7 : take 1 (drop (i + 7) bs) ≡ get_or bs (i + 7) 0 ∷ [] = front bs (i + 7) (i + 8) 0 (omega arith) (omega arith)
     in omega (arith, ap little e0, ap little e1, ap little e2, ap little e3, ap little e4, ap little e5, ap little e6, ap little e7)
 
--- one byte more below
-pub little_more : (bs : List ℕ) (i : ℕ) → i < length bs → little (drop i bs) ≡ get_or bs i 0 + 256 * little (drop (i + 1) bs)
-little_more bs i h = ap little (drop-cons bs i 0 h) ∙ ap (λ k. get_or bs i 0 + 256 * little (drop k bs)) (sym (add-one i))
+-- eight bytes, all of them
+pub eight_all : (bs : List ℕ) → length bs ≡ 8 → little bs ≡ from_le_bytes w64 bs
+eight_all bs long = sym (ap little (take_all 8 bs (omega arith))) ∙ eight bs 0 (omega arith)
 
-pub below_more : (x b k : ℕ) → x < 2 ^ (8 * k) → b < 256 → x * 256 + b < 2 ^ (8 * (k + 1))
-below_more x b k h small =
-    let is : 8 * (k + 1) ≡ 8 * k + 8 = omega arith
-    in let e : 2 ^ (8 * (k + 1)) ≡ 2 ^ (8 * k) * 256 = ap (λ n. 2 ^ n) is ∙ pow-add 2 (8 * k) 8
+-- zeros behind say nothing
+pub little_padded : (bs zs : List ℕ) → little zs ≡ 0 → little (bs ++ zs) ≡ little bs
+little_padded [] zs none = none
+little_padded (b ∷ bs) zs none = ap (λ x. b + 256 * x) (little_padded bs zs none)
+
+pub little_drop : (k : ℕ) (zs : List ℕ) → little zs ≡ 0 → little (drop k zs) ≡ 0
+little_drop zero zs none = none
+little_drop (suc k) [] none = refl
+little_drop (suc k) (z ∷ zs) none = little_drop k zs (omega arith)
+
+below_more : (b x k : ℕ) → b < 256 → x < 2 ^ (8 * k) → b + 256 * x < 2 ^ (8 * suc k)
+below_more b x k small h =
+    let is : 8 * suc k ≡ 8 * k + 8 = omega arith
+    in let e : 2 ^ (8 * suc k) ≡ 2 ^ (8 * k) * 256 = ap (λ n. 2 ^ n) is ∙ pow-add 2 (8 * k) 8
     in omega (arith, e)
+
+-- how large it can be
+pub little_small : (bs : List ℕ) → ((i : ℕ) → get_or bs i 0 < 256) → little bs < 2 ^ (8 * length bs)
+little_small [] small = omega arith
+little_small (b ∷ bs) small = below_more b (little bs) (length bs) (small 0) (little_small bs (λ i. small (suc i)))
 
 pub below_bytes : (x k m : ℕ) → x < 2 ^ (8 * k) → k ≤ m → x < 2 ^ (8 * m)
 below_bytes x k m h few =

@@ -1,4 +1,4 @@
 pub mod Meaning
 pub mod Sip
 pub mod Tags
-pub mod Rings
+pub mod Made

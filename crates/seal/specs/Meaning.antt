@@ -13,6 +13,11 @@ pub record Meaning : Type 0 where
   pub knows : ℕ → List ℕ → List ℕ → Bool
   pub long : ℕ
 
+-- the holder of a ring of keys: its kind says what a holder of these keys and that number recognises, and how
+-- long a seal is
+abbrev pub keyed : (List (List ℕ) → ℕ → ℕ → List ℕ → List ℕ → Bool) → ℕ → List (List ℕ) → ℕ → ℕ → Meaning
+keyed knows long keys own left = record { number = own; left = left; knows = knows keys own; long = long }
+
 -- one seal fewer is left, and nothing else is changed
 abbrev pub spent : Meaning → Meaning
 spent m = record { number = m.number; left = m.left - 1; knows = m.knows; long = m.long }

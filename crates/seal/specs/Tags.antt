@@ -1,8 +1,8 @@
 -- Tags, and the two kinds of seals that are made of them.
-use Rattle.std.specs.Prelude.{◌≡◌, ℕ, zero, suc, ◌*◌, ◌/◌, ◌%◌, ◌<◌, Bool, true, false, ◌&&◌, List, [], ◌∷◌, ◌++◌, length, take, drop, Ok, Err, Result, ◌==◌, nat_le, nat_lt, slice_index_or}
+use Rattle.std.specs.Prelude.{◌≡◌, ℕ, zero, suc, ◌*◌, ◌/◌, ◌%◌, ◌<◌, Bool, true, false, ◌&&◌, List, [], ◌∷◌, ◌++◌, length, take, drop, Ok, Err, Result, ◌==◌, nat_eq, nat_le, nat_lt, slice_index_or}
 use Rattle.base.specs.declared.refusals.Refusal.{Refusal}
 use Rattle.base.specs.declared.refusals.Refusal.TheVariants.{Unlawful}
-use Rattle.seal.specs.Meaning.{Meaning}
+use Rattle.std.specs.Cmp.Lexicographic.{pointwise}
 use Rattle.seal.specs.Sip.{sip}
 
 -- the eight bytes of a word, the least significant first
@@ -15,10 +15,7 @@ tag_of key member statement = eight_bytes (sip key (member ∷ statement))
 
 -- two strings of bytes are the same
 abbrev pub same : List ℕ → List ℕ → Bool
-same [] [] = true
-same [] (y ∷ ys) = false
-same (x ∷ xs) [] = false
-same (x ∷ xs) (y ∷ ys) = x == y && same xs ys
+same = pointwise nat_eq
 
 -- ten keys, of which each has its number
 abbrev pub key_of : List (List ℕ) → ℕ → List ℕ
@@ -30,9 +27,6 @@ single_seal keys member statement = tag_of (key_of keys member) member statement
 
 abbrev pub single_knows : List (List ℕ) → ℕ → List ℕ → List ℕ → Bool
 single_knows keys member statement seal = nat_lt member 10 && same seal (single_seal keys member statement)
-
-abbrev pub single : List (List ℕ) → ℕ → ℕ → Meaning
-single keys own left = record { number = own; left = left; knows = single_knows keys; long = 8 }
 
 -- row: key i is the one that the holder shares with member i. A seal is ten tags, the one at place i under
 -- the key shared with member i
@@ -50,9 +44,6 @@ tag_at i seal = take 8 (drop (8 * i) seal)
 -- a holder looks at the tag at its own place, under the key that it shares with the sealing member
 abbrev pub row_knows : List (List ℕ) → ℕ → ℕ → List ℕ → List ℕ → Bool
 row_knows keys own member statement seal = nat_lt member 10 && (length seal == 80 && same (tag_at own seal) (tag_of (key_of keys member) member statement))
-
-abbrev pub row : List (List ℕ) → ℕ → ℕ → Meaning
-row keys own left = record { number = own; left = left; knows = row_knows keys own; long = 80 }
 
 -- there are ten members, and a sealer makes at most 4,000,000,000 seals
 abbrev pub lawful : ℕ → ℕ → Bool

@@ -1,7 +1,9 @@
 // Seals: who recognises them, who makes them, and the two kinds that are delivered.
 #![tactic(auto)]
 
+pub mod keyed;
 pub mod keys;
+pub mod kinds;
 pub mod ring;
 pub mod row;
 pub mod sealers;

@@ -1,6 +1,8 @@
 // SipHash-2-4, as its authors published it.
-ghost use Rattle.std.specs.Prelude.{◌≡◌, ◌+◌, ◌*◌, ◌^◌, ◌<◌, ◌≤◌, ◌∷◌, length, take, drop};
+ghost use Rattle.std.specs.Prelude.{◌≡◌, ◌*◌, ◌^◌, ◌<◌, ◌∷◌, length};
 ghost use Rattle.seal.specs.Sip.{little, add, turn, sip_round, start, compress, finish, onward, sip};
+
+use base::writing::put;
 
 // The four words that the rounds work on.
 #[derive(Clone, Copy)]
@@ -37,8 +39,9 @@ pub fn worked_example() -> u64
 fn begin(key: &[u8; 16]) -> State
     ensures { result ≡ start key.now }
 {
-    let k0 = word_at(key, 0);
-    let k1 = word_at(key, 8);
+    let (words, _) = key.as_chunks::<8>();
+    let k0 = word(&words[0]);
+    let k1 = word(&words[1]);
     State {
         v0: k0 ^ 0x736f6d6570736575,
         v1: k1 ^ 0x646f72616e646f6d,
@@ -51,12 +54,12 @@ fn begin(key: &[u8; 16]) -> State
 fn go_on(state: State, rest: &[u8], total: usize) -> u64
     ensures { result ≡ onward state rest.now total }
 {
-    let words = rest.len() / 8;
+    let (words, last) = rest.as_chunks::<8>();
     let mut s = state;
-    for i in 0..words {
-        s = take_in(s, word_at(rest, 8 * i));
+    for bytes in words {
+        s = take_in(s, word(bytes));
     }
-    let last = tail(&rest[8 * words..]) + (total % 256) as u64 * 0x100000000000000;
+    let last = tail(last) + (total % 256) as u64 * 0x100000000000000;
     close(take_in(s, last))
 }
 
@@ -76,6 +79,7 @@ fn go_on_after(state: State, first: u8, rest: &[u8]) -> u64
 }
 
 // One word of the message.
+#[tactic(auto, unfolding(crate::specs::Sip::compress))]
 fn take_in(s: State, word: u64) -> State
     ensures { result ≡ compress s word }
 {
@@ -89,6 +93,7 @@ fn take_in(s: State, word: u64) -> State
     }
 }
 
+#[tactic(auto, unfolding(crate::specs::Sip::finish))]
 fn close(s: State) -> u64
     ensures { result ≡ finish s }
 {
@@ -99,6 +104,7 @@ fn close(s: State) -> u64
     (t.v0 ^ t.v1) ^ (t.v2 ^ t.v3)
 }
 
+#[tactic(auto, unfolding(crate::specs::Sip::sip_round))]
 fn round(s: State) -> State
     ensures { result ≡ sip_round s }
 {
@@ -118,6 +124,7 @@ fn round(s: State) -> State
     }
 }
 
+#[tactic(auto, unfolding(crate::specs::Sip::add))]
 fn plus(a: u64, b: u64) -> u64
     ensures { result ≡ add a b }
 {
@@ -131,21 +138,11 @@ fn left(k: u32, x: u64) -> u64
     x.rotate_left(k)
 }
 
-// The word of eight bytes at a place.
-fn word_at(bytes: &[u8], at: usize) -> u64
-    requires { at + 8 ≤ length bytes.now }
-    ensures { result ≡ little (take 8 (drop at bytes.now)) }
+// The word of eight bytes.
+fn word(bytes: &[u8; 8]) -> u64
+    ensures { result ≡ little bytes.now }
 {
-    u64::from_le_bytes([
-        bytes[at],
-        bytes[at + 1],
-        bytes[at + 2],
-        bytes[at + 3],
-        bytes[at + 4],
-        bytes[at + 5],
-        bytes[at + 6],
-        bytes[at + 7],
-    ])
+    u64::from_le_bytes(*bytes)
 }
 
 // The number that fewer than eight bytes say.
@@ -154,9 +151,7 @@ fn tail(bytes: &[u8]) -> u64
     ensures said { result ≡ little bytes.now }
     ensures small { result < 2 ^ (8 * length bytes.now) }
 {
-    let mut said = 0;
-    for i in (0..bytes.len()).rev() {
-        said = said * 256 + bytes[i] as u64;
-    }
-    said
+    let mut filled = [0; 8];
+    let _ = put(&mut filled, 0, bytes);
+    word(&filled)
 }

@@ -22,20 +22,17 @@ pub fn vote_stands<C: Checker>(checker: &C, statement: &Statement, vote: &Vote) 
 }
 
 // Seals the statement; refused, with nothing changed, exactly where no seal is left.
+#[tactic(auto, using(crate::proofs::Sealings::unstated))]
 pub fn seal_statement<S: Sealer>(sealer: &mut S, statement: &Statement) -> Result<Seal, Refusal>
     ensures { Stating (S.Sealer.meaning sealer.old) (statement_bytes statement.now) result (S.Sealer.meaning sealer.new) }
 {
     let mut room = [0u8; 80];
-    if let Err(why) = sealer.seal(statement.to_bytes().as_slice(), &mut room) {
-        return Err(why);
-    }
-    match Seal::new(&room[0..S::seal_length()]) {
-        Some(seal) => Ok(seal),
-        None => unreachable(),
-    }
+    sealer.seal(statement.to_bytes().as_slice(), &mut room)?;
+    Ok(Seal::new(&room[..S::seal_length()]).unwrap())
 }
 
 // What passes between members: a seal of either kind is recognised in its maker's name by each member with the keys.
+#[tactic(auto, using(crate::specs::Made::singles_pass, crate::specs::Made::rows_pass))]
 pub fn seals_pass()
     ensures singles { SinglesPass }
     ensures rows { RowsPass }

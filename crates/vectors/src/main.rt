@@ -2,7 +2,7 @@
 #![tactic(auto)]
 
 use seal::siphash::{siphash, siphash_after, worked_example};
-use std::io;
+use std::{array, io};
 
 const KEY: [u8; 16] = [0, 1, 2, 3, 4, 5, 6, 7, 8, 9, 10, 11, 12, 13, 14, 15];
 
@@ -75,43 +75,25 @@ const EXPECTED: [u64; 64] = [
 ];
 
 fn main(rt: HostRuntime) -> io::Result<()> {
-    let whole = agree_whole();
+    let whole = agreeing(|message| Some(siphash(&KEY, message)));
     println!(rt; "SipHash-2-4, messages of 0 to 63 bytes: {whole} of 64 agree")?;
-    let apart = agree_apart();
+    let apart = agreeing(|message| {
+        let (first, rest) = message.split_first()?;
+        Some(siphash_after(&KEY, *first, rest))
+    });
     println!(rt; "SipHash-2-4, the first byte given apart: {apart} of 63 agree")?;
     let example = worked_example();
     println!(rt; "SipHash-2-4, the authors' worked example: {example:016x}")
 }
 
-// The message of 63 bytes, of which each other is the front.
-fn longest() -> [u8; 63] {
-    let mut message = [0; 63];
-    for i in 0..63u8 {
-        message[i as usize] = i;
-    }
-    message
-}
-
-// How many hashes are as expected.
-fn agree_whole() -> usize {
-    let message = longest();
-    let mut agree = 0usize;
-    for n in 0..64usize {
-        if siphash(&KEY, &message[0..n]) == EXPECTED[n] {
-            agree = agree.saturating_add(1);
-        }
-    }
-    agree
-}
-
-// The same of the messages that have a first byte, which is given apart from the rest.
-fn agree_apart() -> usize {
-    let message = longest();
-    let mut agree = 0usize;
-    for n in 1..64usize {
-        if siphash_after(&KEY, message[0], &message[1..n]) == EXPECTED[n] {
-            agree = agree.saturating_add(1);
-        }
-    }
-    agree
+// How many of the messages the hash gives what is expected of. It may give nothing of a message.
+fn agreeing<F: Fn(&[u8]) -> Option<u64>>(hash: F) -> usize
+    requires { (f : F) (m : _) → F.pre f m }
+{
+    let longest: [u8; 63] = array::from_fn(|i| i as u8);
+    EXPECTED
+        .iter()
+        .enumerate()
+        .filter(|(n, expected)| longest.get(..*n).and_then(|message| hash(message)) == Some(**expected))
+        .count()
 }
