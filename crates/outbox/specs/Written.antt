@@ -1,11 +1,13 @@
 -- What the writers write, by the fields they are given.
-use Rattle.std.specs.Prelude.{ℕ, ◌+◌, Bool, List, [], ◌∷◌, map, length, Some, None, Option, nat_lt}
+use Rattle.std.specs.Prelude.{ℕ, ◌+◌, Bool, List, map, sum_by, length, Some, None, Option, nat_lt}
 use Rattle.base.specs.Seals.{seal_bytes}
 use Rattle.base.specs.Slips.{slip_bytes}
+use Rattle.base.specs.declared.certified.Certified.{Certified}
+use Rattle.base.specs.declared.certified.Certified.TheVariants.{Lock, Select, Decide}
 use Rattle.base.specs.declared.seals.Seal.{Seal}
 use Rattle.base.specs.declared.seals.Vote.{Vote}
 use Rattle.base.specs.declared.slips.Slip.{Slip}
-use Rattle.message.specs.Contents.{Signed, Cert, Content, Sent}
+use Rattle.message.specs.Contents.{Signed, Cert, Content, Sent, lock, select, decide}
 use Rattle.message.specs.Encoding.{Block, vote_block}
 use Rattle.message.specs.declared.shapes.Head.{Head}
 
@@ -14,6 +16,12 @@ signed_by v = record { signer = v.member.0; seal = seal_bytes v.seal }
 
 abbrev pub cert_with : Slip → Seal → List Vote → Cert (List ℕ)
 cert_with slip own votes = record { slip = slip; own = seal_bytes own; votes = map signed_by votes }
+
+-- what a message of that certificate holds
+abbrev pub certifying : Certified → Cert (List ℕ) → Content (List ℕ)
+certifying Lock c = lock c
+certifying Select c = select c
+certifying Decide c = decide c
 
 abbrev pub sent : Head → Content (List ℕ) → Sent (List ℕ)
 sent h c = record { head = h; content = c }
@@ -28,8 +36,7 @@ measurable bytes = nat_lt (length bytes) 65536
 
 -- how many bytes the seals have together
 abbrev pub seals_length : List Vote → ℕ
-seals_length [] = 0
-seals_length (v ∷ vs) = length (seal_bytes v.seal) + seals_length vs
+seals_length votes = sum_by (λ v. length (seal_bytes v.seal)) votes
 
 -- the entries of the votes in the table of contents, and their bodies
 abbrev pub vote_blocks : ℕ → List Vote → List Block

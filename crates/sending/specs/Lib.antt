@@ -1,3 +1,2 @@
-pub mod Certifying
 pub mod Drafts
 pub mod Sending

@@ -1,17 +1,17 @@
 // The drafts that a replica and a leader's turn send. The draft stands over the fill while its statements are sealed; where
 // the sealer wears out it is withdrawn.
 ghost use Rattle.std.specs.Prelude.{◌≡◌, true, map};
+ghost use Rattle.base.specs.Certified.{kind_of, sort_of, word_of};
 ghost use Rattle.protocol.specs.Messages.{commit_draft};
 ghost use Rattle.protocol.specs.Rounds.{change_draft};
 ghost use Rattle.outbox.specs.Written.{signed_by, countable, measurable};
-ghost use Rattle.sending.specs.Certifying.{kind_of, sort_of, word_of};
 ghost use Rattle.sending.specs.Drafts.{release_for, cert_for};
 ghost use Rattle.sending.specs.Sending.{Sending, one_seal, two_seals};
 
+use base::certified::Certified;
 use base::refusals::Refusal;
 use base::seals::{Seal, Vote};
 use base::slips::Slip;
-use base::stages::Kind;
 use base::statements::{Statement, Word};
 use message::shapes::Head;
 use outbox::drafts::{Draft, Fill};
@@ -43,10 +43,10 @@ pub fn send_change<S: Sealer>(
     if !has_room(fill, out.len(), need) {
         return Err(Refusal::OutboxShort);
     }
-    let mut draft = Draft::begin(fill);
+    let draft = Draft::begin(fill);
     let rchg = seal_statement(sealer, &says(Word::Rchg, &head, None))?;
     let cand = seal_statement(sealer, &says(Word::Cand, &head, *page))?;
-    lay_change(&mut draft, out, head, page, &rchg, &cand);
+    lay_change(draft.fill, out, head, page, &rchg, &cand);
     draft.finish();
     Ok(ChangeSeals { rchg, cand })
 }
@@ -65,9 +65,9 @@ pub fn send_commit<S: Sealer>(
     if !has_room(fill, out.len(), need) {
         return Err(Refusal::OutboxShort);
     }
-    let mut draft = Draft::begin(fill);
+    let draft = Draft::begin(fill);
     let seal = seal_statement(sealer, &says(Word::Cmit, &head, Some(*slip)))?;
-    lay_commit(&mut draft, out, head, slip, &seal);
+    lay_commit(draft.fill, out, head, slip, &seal);
     draft.finish();
     Ok(seal)
 }
@@ -90,51 +90,11 @@ pub fn send_release<S: Sealer>(
     if !has_room(fill, out.len(), need) {
         return Err(Refusal::OutboxShort);
     }
-    let mut draft = Draft::begin(fill);
+    let draft = Draft::begin(fill);
     let seal = seal_statement(sealer, &says(Word::Rlse, &head, Some(*slip)))?;
-    lay_release(&mut draft, out, head, lock, &seal);
+    lay_release(draft.fill, out, head, lock, &seal);
     draft.finish();
     Ok(seal)
-}
-
-// Which certificate is sent: a lock over candidates, a select over round changes, or a decide over commits.
-#[derive(Clone, Copy)]
-pub enum Certified {
-    Lock,
-    Select,
-    Decide,
-}
-
-impl Certified {
-    fn kind(self) -> Kind
-        ensures { result ≡ kind_of self }
-    {
-        match self {
-            Certified::Lock => Kind::Lock,
-            Certified::Select => Kind::Select,
-            Certified::Decide => Kind::Decide,
-        }
-    }
-
-    fn sort(self) -> u8
-        ensures { result ≡ sort_of self }
-    {
-        match self {
-            Certified::Lock => 3,
-            Certified::Select => 2,
-            Certified::Decide => 4,
-        }
-    }
-
-    fn word(self) -> Word
-        ensures { result ≡ word_of self }
-    {
-        match self {
-            Certified::Lock => Word::Lock,
-            Certified::Select => Word::Slct,
-            Certified::Decide => Word::Dcid,
-        }
-    }
 }
 
 // A lock, select or decide on a slip over at most 253 votes.
@@ -153,18 +113,10 @@ pub fn send_certificate<S: Sealer>(
     if !has_room(fill, out.len(), need) {
         return Err(Refusal::OutboxShort);
     }
-    let mut draft = Draft::begin(fill);
+    let draft = Draft::begin(fill);
     let own = seal_statement(sealer, &says(certified.word(), &head, Some(*slip)))?;
-    lay_certificate(
-        &mut draft,
-        out,
-        certified.kind(),
-        certified.sort(),
-        head,
-        slip,
-        &own,
-        votes,
-    );
+    let sort = certified.sort().number();
+    lay_certificate(draft.fill, out, certified.kind(), sort, head, slip, &own, votes);
     draft.finish();
     Ok(own)
 }

@@ -1,4 +1,4 @@
-use Rattle.std.proofs.Common.{◌≡◌, ℕ, List, ◌∷◌, ◌++◌, length, sym, ap, ◌∙◌, rules}
+use Rattle.std.proofs.Common.{◌≡◌, ℕ, List, ◌∷◌, ◌++◌, length}
 use Rattle.std.proofs.lemmas.List.{append-nil}
 use Rattle.base.specs.Numbers.{be2}
 use Rattle.base.specs.Seals.{seal_bytes}
@@ -14,17 +14,10 @@ use Rattle.outbox.proofs.layouts.lay_commit.Goals as goal
 
 -- its pieces in their order
 pieces : (h : Head) (s : Slip) (seal : Seal) (n : ℕ) (b : List ℕ) → n ≡ length (slip_bytes s) → b ≡ seal_bytes seal → header 4 h 2 ++ ((1 ∷ 0 ∷ be2 n) ++ ((4 ∷ h.sender.0 ∷ be2 (length b)) ++ (slip_bytes s ++ b))) ≡ encoded (sent h (commit s (seal_bytes seal)))
-pieces h s seal n b is same =
-    (λ i. header 4 h 2 ++ ((1 ∷ 0 ∷ be2 (is i)) ++ ((4 ∷ h.sender.0 ∷ be2 (length (same i))) ++ (slip_bytes s ++ same i))))
-    ∙ ap (λ z. header 4 h 2 ++ ((1 ∷ 0 ∷ be2 (length (slip_bytes s))) ++ ((4 ∷ h.sender.0 ∷ be2 (length (seal_bytes seal))) ++ (slip_bytes s ++ z)))) (sym (append-nil (seal_bytes seal)))
+pieces h s seal n b is same = rw (is, same, append-nil)
 
 pub returns : goal.returns
 returns c =
-    record {
-      lent = search rules;
-      start = search rules;
-      added =
-          adds_as _ (pieces c.args.head c.args.slip.now c.args.seal.now c.size.result c.as_slice-seal.result.now c.size.ensures.size c.as_slice-seal.ensures.bytes)
-          (adds_then c.add_header.ensures.added (adds_then c.add_entry.ensures.added (adds_then c.add_entry-2.ensures.added
-          (adds_then c.add_slip.ensures.added c.add.ensures.added))));
-    }
+    adds_as _ (pieces c.args.head c.args.slip.now c.args.seal.now c.size.result c.as_slice-seal.result.now c.size.ensures.size c.as_slice-seal.ensures.bytes)
+    (adds_then c.add_header.ensures (adds_then c.add_entry.ensures (adds_then c.add_entry-2.ensures
+    (adds_then c.add_slip.ensures c.add.ensures.added))))

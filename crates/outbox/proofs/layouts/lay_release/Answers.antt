@@ -1,4 +1,4 @@
-use Rattle.std.proofs.Common.{◌≡◌, ℕ, List, ◌∷◌, ◌++◌, length, sym, ◌∙◌, rules}
+use Rattle.std.proofs.Common.{◌≡◌, ℕ, List, ◌∷◌, ◌++◌, length}
 use Rattle.std.proofs.lemmas.List.{append-nil}
 use Rattle.base.specs.Numbers.{be2}
 use Rattle.base.specs.Seals.{seal_bytes}
@@ -12,17 +12,10 @@ use Rattle.outbox.proofs.layouts.lay_release.Goals as goal
 
 -- its pieces in their order
 pieces : (h : Head) (l : List ℕ) (inner : Locked (List ℕ)) (seal : Seal) (b : List ℕ) → b ≡ seal_bytes seal → header 6 h 2 ++ ((6 ∷ 0 ∷ be2 (length l)) ++ ((5 ∷ h.sender.0 ∷ be2 (length b)) ++ (l ++ b))) ≡ encoded (sent h (release l inner (seal_bytes seal)))
-pieces h l inner seal b same =
-    (λ i. header 6 h 2 ++ ((6 ∷ 0 ∷ be2 (length l)) ++ ((5 ∷ h.sender.0 ∷ be2 (length (same i))) ++ (l ++ same i))))
-    ∙ (λ i. header 6 h 2 ++ ((6 ∷ 0 ∷ be2 (length l)) ++ ((5 ∷ h.sender.0 ∷ be2 (length (seal_bytes seal))) ++ (l ++ sym (append-nil (seal_bytes seal)) i))))
+pieces h l inner seal b same = rw (same, append-nil)
 
 pub returns : goal.returns
-returns c =
-    record {
-      lent = search rules;
-      start = search rules;
-      added = λ inner.
-          adds_as _ (pieces c.args.head c.args.lock.now inner c.args.own.now c.as_slice-own.result.now c.as_slice-own.ensures.bytes)
-          (adds_then c.add_header.ensures.added (adds_then c.add_entry.ensures.added (adds_then c.add_entry-2.ensures.added
-          (adds_then c.add.ensures.added c.add-2.ensures.added))));
-    }
+returns c inner =
+    adds_as _ (pieces c.args.head c.args.lock.now inner c.args.own.now c.as_slice-own.result.now c.as_slice-own.ensures.bytes)
+    (adds_then c.add_header.ensures (adds_then c.add_entry.ensures (adds_then c.add_entry-2.ensures
+    (adds_then c.add.ensures.added c.add-2.ensures.added))))

@@ -10,9 +10,9 @@ use Rattle.message.specs.Encoding.{cert_blocks, framed}
 use Rattle.outbox.specs.Written.{signed_by, cert_with, seals_length}
 use Rattle.outbox.proofs.Pieces.{adds_as}
 use Rattle.base.specs.Kinds.{kind_number}
-use Rattle.sending.specs.Certifying.{kind_of, sort_of, word_of}
+use Rattle.base.specs.Certified.{kind_of, sort_of, word_of}
 use Rattle.sending.specs.Drafts.{cert_for}
-use Rattle.sending.specs.declared.sends.Certified.{Certified}
+use Rattle.base.specs.declared.certified.Certified.{Certified}
 use Rattle.sending.proofs.Sent.{is_short, worn_first, goes_one, cert_fills, cert_size_lem}
 use Rattle.sending.proofs.sends.send_certificate.Goals as goal
 
@@ -43,8 +43,8 @@ returns g c few =
     in let x = seal_bytes c.in_ok-own.own
     in goes_one m _ _ _ _
     (size c.args.head c.args.certified c.args.slip.now c.args.votes.now c.size.result c.votes_room.result c.size.ensures.size (c.votes_room.ensures.room few) c.seal_length.result g.S.Checker.seal_long _ c.seal_length.ensures (g.met.S.Sealer.long c.args.sealer.now))
-    c.if-not-has_room.ensures (x ∷ []) _ c.lay_certificate.new.draft.fill.now.len _ _ c.begin-draft.ensures.now (search rules)
+    c.if-not-has_room.ensures (x ∷ []) _ c.lay_certificate.new.fill.len _ _ c.begin-draft.ensures.now (search rules)
     (fills c.args.head c.args.certified c.args.slip.now c.args.votes.now c.size.result c.votes_room.result c.size.ensures.size (c.votes_room.ensures.room few) c.seal_length.result g.S.Checker.seal_long m.long c.seal_length.ensures (g.met.S.Sealer.long c.args.sealer.now) x c.in_ok-own.ensures.whole)
-    (adds_as _ (λ i. framed (kind_number (c.kind.ensures i)) c.args.head (cert_blocks (c.sort.ensures i) c.args.head (cert_with c.args.slip.now c.in_ok-own.own c.args.votes.now))) (c.lay_certificate.ensures.added few))
+    (adds_as _ (λ i. framed (kind_number (c.kind.ensures i)) c.args.head (cert_blocks ((c.number-sort.ensures ∙ c.sort.ensures) i) c.args.head (cert_with c.args.slip.now c.in_ok-own.own c.args.votes.now))) (c.lay_certificate.ensures few))
     m1 c.says.result x
     (λ i. sym (c.says.ensures ∙ (λ j. record { word = c.word.ensures j; height = c.args.head.height; round = c.args.head.round; page = Some c.args.slip.now })) i ∷ []) refl c.in_ok-own.ensures

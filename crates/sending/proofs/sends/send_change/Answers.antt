@@ -45,6 +45,6 @@ returns g c =
     in let y = seal_bytes c.in_ok-cand.cand
     in goes_two m _ _ _ _
     (size c.args.head.sender.0 c.args.head.height.0 c.args.head.round.0 c.args.page.now c.slip_room.result c.seal_length.result g.S.Checker.seal_long _ c.slip_room.ensures.room c.seal_length.ensures (g.met.S.Sealer.long c.args.sealer.now))
-    c.if-not-has_room.ensures (x ∷ (y ∷ [])) _ c.lay_change.new.draft.fill.now.len _ _ c.begin-draft.ensures.now (search rules)
+    c.if-not-has_room.ensures (x ∷ (y ∷ [])) _ c.lay_change.new.fill.len _ _ c.begin-draft.ensures.now (search rules)
     (fills c.args.head.sender.0 c.args.head.height.0 c.args.head.round.0 c.args.page.now c.slip_room.result c.seal_length.result g.S.Checker.seal_long m.long c.slip_room.ensures.room c.seal_length.ensures (g.met.S.Sealer.long c.args.sealer.now) m1.long x y (g.met.S.Sealer.long c.seal_statement.new.sealer) c.in_ok-rchg.ensures.whole c.in_ok-cand.ensures.whole)
-    c.lay_change.ensures.added m1 m2 c.says.result c.says-2.result x y (λ i. sym c.says.ensures i ∷ (sym c.says-2.ensures i ∷ [])) refl c.in_ok-rchg.ensures c.in_ok-cand.ensures
+    c.lay_change.ensures m1 m2 c.says.result c.says-2.result x y (λ i. sym c.says.ensures i ∷ (sym c.says-2.ensures i ∷ [])) refl c.in_ok-rchg.ensures c.in_ok-cand.ensures

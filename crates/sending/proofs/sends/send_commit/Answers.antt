@@ -36,6 +36,6 @@ returns g c =
     in let x = seal_bytes c.in_ok-seal.seal
     in goes_one m _ _ _ _
     (size c.args.head c.args.slip.now c.size.result c.size.ensures.size c.seal_length.result g.S.Checker.seal_long _ c.seal_length.ensures (g.met.S.Sealer.long c.args.sealer.now))
-    c.if-not-has_room.ensures (x ∷ []) _ c.lay_commit.new.draft.fill.now.len _ _ c.begin-draft.ensures.now (search rules)
+    c.if-not-has_room.ensures (x ∷ []) _ c.lay_commit.new.fill.len _ _ c.begin-draft.ensures.now (search rules)
     (fills c.args.head c.args.slip.now c.size.result c.size.ensures.size c.seal_length.result g.S.Checker.seal_long m.long c.seal_length.ensures (g.met.S.Sealer.long c.args.sealer.now) x c.in_ok-seal.ensures.whole)
-    c.lay_commit.ensures.added m1 c.says.result x (λ i. sym c.says.ensures i ∷ []) refl c.in_ok-seal.ensures
+    c.lay_commit.ensures m1 c.says.result x (λ i. sym c.says.ensures i ∷ []) refl c.in_ok-seal.ensures

@@ -40,6 +40,6 @@ returns g c lays =
     in let x = seal_bytes c.in_ok-seal.seal
     in goes_one m _ _ _ _
     (size c.args.head c.args.slip.now c.args.lock.now c.seal_length.result g.S.Checker.seal_long _ c.seal_length.ensures (g.met.S.Sealer.long c.args.sealer.now))
-    c.if-not-has_room.ensures (x ∷ []) _ c.lay_release.new.draft.fill.now.len _ _ c.begin-draft.ensures.now (search rules)
+    c.if-not-has_room.ensures (x ∷ []) _ c.lay_release.new.fill.len _ _ c.begin-draft.ensures.now (search rules)
     (fills c.args.head c.args.slip.now c.args.lock.now c.seal_length.result g.S.Checker.seal_long m.long c.seal_length.ensures (g.met.S.Sealer.long c.args.sealer.now) x c.in_ok-seal.ensures.whole)
-    (c.lay_release.ensures.added (any c.args.head c.args.slip.now)) m1 c.says.result x (λ i. sym c.says.ensures i ∷ []) refl c.in_ok-seal.ensures
+    (c.lay_release.ensures (any c.args.head c.args.slip.now)) m1 c.says.result x (λ i. sym c.says.ensures i ∷ []) refl c.in_ok-seal.ensures
