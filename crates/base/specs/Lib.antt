@@ -6,3 +6,6 @@ pub mod Slips
 pub mod Statements
 pub mod Writing
 pub mod Refusals
+pub mod Sorts
+pub mod Certified
+pub mod Bounded

@@ -1,5 +1,6 @@
 -- The bytes that members seal.
-use Rattle.std.specs.Prelude.{◌≡◌, ℕ, ◌^◌, ◌<◌, false, List, [], ◌++◌, take, Some, None, codes, Option}
+use Rattle.std.specs.Prelude.{◌≡◌, ℕ, ◌^◌, ◌<◌, false, List, [], ◌++◌, Some, None, codes, Option}
+use Rattle.base.specs.Bounded.{items}
 use Rattle.base.specs.Numbers.{be4, all_zero}
 use Rattle.base.specs.Slips.{SlipFits, slip_bytes, page_bytes}
 use Rattle.base.specs.declared.slips.Slip.{Slip}
@@ -38,7 +39,7 @@ statement_bytes s = word_bytes s.word ++ (be4 s.height.0 ++ (be4 s.round.0 ++ na
 
 -- what a buffer for a statement holds
 abbrev pub sealed : StatementBytes → List ℕ
-sealed b = take b.len b.bytes
+sealed b = items b.bytes
 
 -- a page of the program that is not the slip of 72 zeros, which is how none is written
 abbrev pub PageFits : Option Slip → Type 0

@@ -1,6 +1,8 @@
 // The words that every layer shares: counters, the pool's arithmetic, slips, statements, seals and refusals.
 #![tactic(auto)]
 
+pub mod bounded;
+pub mod certified;
 pub mod counters;
 pub mod pools;
 pub mod refusals;

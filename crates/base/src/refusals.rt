@@ -2,6 +2,9 @@
 ghost use Rattle.std.specs.Prelude.{◌≡◌, slice_index};
 ghost use Rattle.base.specs.Refusals.{told};
 
+use std::error::Error;
+use std::fmt;
+
 #[derive(Clone, Copy, PartialEq, Eq, Debug)]
 pub enum Refusal {
     // 1: not of the layout, or height or round out of range
@@ -72,3 +75,36 @@ impl Refusal {
         }
     }
 }
+
+// Why, in a few words.
+fn phrase(refusal: &Refusal) -> &'static str {
+    match refusal {
+        Refusal::Misshapen => "misshapen, or height or round out of range",
+        Refusal::Stranger => "not of a member, or not of the leader",
+        Refusal::PastHeight => "below the height",
+        Refusal::LaterHeight => "above the height",
+        Refusal::WrongRound => "of a round that is not taken",
+        Refusal::OutOfStage => "not taken in this stage",
+        Refusal::BadSeal { .. } => "a seal that is not recognised",
+        Refusal::OffChain => "a slip off the chain",
+        Refusal::NotAdmitted => "a slip that the rulebook does not admit",
+        Refusal::Contradiction => "another page for the same round",
+        Refusal::CandidatesFull => "no place for a further candidate",
+        Refusal::WornSealer => "no seal left",
+        Refusal::OutboxShort => "no room in the outbox",
+        Refusal::NotYourTurn => "not the leader's turn",
+        Refusal::NotYet => "too early",
+        Refusal::TurnPast => "the turn is past",
+        Refusal::Unlawful => "settings, ticks or a sealer outside limits",
+        Refusal::BooksEnd => "no round or height is left",
+        Refusal::FewRecords => "fewer commit records than members",
+    }
+}
+
+impl fmt::Display for Refusal {
+    fn fmt<W: fmt::Write>(&self, f: &mut fmt::Formatter<W>) -> fmt::Result {
+        write!(f, "refusal {}: {}", self.number(), phrase(self))
+    }
+}
+
+impl Error for Refusal {}

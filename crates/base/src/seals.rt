@@ -3,14 +3,13 @@ ghost use Rattle.std.specs.Prelude.{◌≡◌, ◌<◌, ◌≤◌, cond, ◌&&�
 ghost use Rattle.std.specs.Option.{option_map};
 ghost use Rattle.base.specs.Seals.{seal_bytes, kept};
 
+use crate::bounded::Bounded;
 use crate::counters::Member;
-use crate::writing::put;
 
 // The bytes of a seal, from 1 to 80 of them.
 #[derive(Clone, Copy)]
 pub struct Seal {
-    bytes: [u8; 80],
-    len: usize,
+    bytes: Bounded<u8, 80>,
 }
 
 // A seal and the member in whose name it stands.
@@ -25,15 +24,12 @@ impl Seal {
     pub fn new(bytes: &[u8]) -> Option<Seal>
         ensures { option_map seal_bytes result ≡ kept bytes.now }
     {
-        if bytes.is_empty() || bytes.len() > 80 {
+        if bytes.is_empty() {
             return None;
         }
-        let mut seal = Seal {
-            bytes: [0; 80],
-            len: bytes.len(),
-        };
-        let _ = put(&mut seal.bytes, 0, bytes);
-        Some(seal)
+        Some(Seal {
+            bytes: Bounded::from_slice(bytes, 0)?,
+        })
     }
 
     // The bytes of the seal.
@@ -41,10 +37,6 @@ impl Seal {
         ensures bytes { result.now ≡ seal_bytes self.now }
         ensures small { length result.now ≤ 80 }
     {
-        let all: &[u8] = &self.bytes;
-        if self.len > all.len() {
-            return all;
-        }
-        &all[0..self.len]
+        self.bytes.as_slice()
     }
 }

@@ -1,6 +1,11 @@
 // What a replica is doing, and what a message is.
 ghost use Rattle.std.specs.Prelude.{◌≡◌};
+ghost use Rattle.std.specs.Option.{ok_or};
 ghost use Rattle.base.specs.Kinds.{kind_number, kind_of};
+ghost use Rattle.base.specs.Sorts.{sort_number};
+ghost use Rattle.base.specs.declared.refusals.Refusal.TheVariants.{Misshapen};
+
+use crate::refusals::Refusal;
 
 // The stages of a round, in their order.
 #[derive(Clone, Copy, PartialEq, Eq, Debug)]
@@ -55,6 +60,49 @@ impl Kind {
             5 => Some(Kind::Decide),
             6 => Some(Kind::Release),
             _ => None,
+        }
+    }
+}
+
+impl TryFrom<u8> for Kind {
+    type Error = Refusal;
+
+    ghost try_from_gives = { λ n r. r ≡ ok_or (kind_of n) Misshapen };
+
+    fn try_from(number: u8) -> Result<Self, Refusal> {
+        Kind::from_number(number).ok_or(Refusal::Misshapen)
+    }
+}
+
+// The sorts of bodies that a message has.
+#[derive(Clone, Copy, PartialEq, Eq, Debug)]
+pub enum Sort {
+    // a slip of 72 bytes
+    Slip,
+    // a seal on a round change
+    RoundChange,
+    // a seal on a candidate
+    Candidate,
+    // a seal on a commit
+    Commit,
+    // the sender's own seal on a lock, select, decide or release
+    Own,
+    // a whole lock message
+    Lock,
+}
+
+impl Sort {
+    // The byte that stands for it in a table of contents.
+    pub fn number(self) -> u8
+        ensures { result ≡ sort_number self }
+    {
+        match self {
+            Sort::Slip => 1,
+            Sort::RoundChange => 2,
+            Sort::Candidate => 3,
+            Sort::Commit => 4,
+            Sort::Own => 5,
+            Sort::Lock => 6,
         }
     }
 }

@@ -5,9 +5,9 @@ ghost use Rattle.base.specs.Slips.{page_bytes, BytesDecideSlip};
 ghost use Rattle.base.specs.Statements.{word_bytes, statement_bytes, sealed, BytesDecideStatement};
 ghost use Rattle.base.specs.Writing.{wrote};
 
+use crate::bounded::Bounded;
 use crate::counters::{Height, Round};
 use crate::slips::Slip;
-use crate::writing::put;
 
 // What a statement is about. Its four letters keep one kind of seal from counting as another.
 #[derive(Clone, Copy, PartialEq, Eq, Debug)]
@@ -57,11 +57,8 @@ pub struct Statement {
 // A statement as bytes: 12 of them for RCHG, 84 for the others.
 #[derive(Clone, Copy)]
 pub struct StatementBytes {
-    bytes: [u8; 84],
-    len: usize,
+    bytes: Bounded<u8, 84>,
 }
-
-const NO_SLIP: [u8; 72] = [0; 72];
 
 impl Statement {
     // The bytes, which belong to no other statement, as a slip's belong to no other slip.
@@ -70,9 +67,14 @@ impl Statement {
         ensures law { BytesDecideStatement }
         ensures slips { BytesDecideSlip }
     {
-        let mut bytes = [0u8; 84];
-        let len = fill(self, &mut bytes);
-        StatementBytes { bytes, len }
+        let mut bytes = Bounded::empty(0);
+        let _ = bytes.extend(&self.word.bytes());
+        let _ = bytes.extend(&self.height.0.to_be_bytes());
+        let _ = bytes.extend(&self.round.0.to_be_bytes());
+        if self.word != Word::Rchg {
+            let _ = bytes.extend(&page_bytes(&self.page));
+        }
+        StatementBytes { bytes }
     }
 }
 
@@ -80,43 +82,18 @@ impl StatementBytes {
     pub fn as_slice(&self) -> &[u8]
         ensures { result.now ≡ sealed self.now }
     {
-        let all: &[u8] = &self.bytes;
-        if self.len > all.len() {
-            return all;
-        }
-        &all[0..self.len]
+        self.bytes.as_slice()
     }
 }
 
-fn fill(s: &Statement, out: &mut [u8]) -> usize
-    requires { length out.old ≡ 84 }
-    ensures written { out.new ≡ wrote 0 (statement_bytes s.now) out.old }
-    ensures len { result ≡ length (statement_bytes s.now) }
+// The 72 bytes that stand for a page: a slip's, or zeros where there is none.
+fn page_bytes(page: &Option<Slip>) -> [u8; 72]
+    ensures is { result ≡ page_bytes page.now }
+    ensures len { length result ≡ 72 }
 {
-    fill_head(s, out);
-    if s.word == Word::Rchg {
-        return 12;
+    let mut bytes = [0; 72];
+    if let Some(slip) = page {
+        let _ = slip.write(&mut bytes, 0);
     }
-    fill_page(&s.page, out);
-    84
-}
-
-fn fill_head(s: &Statement, out: &mut [u8])
-    requires { length out.old ≡ 84 }
-    ensures written { out.new ≡ wrote 0 (word_bytes s.now.word ++ (be4 s.now.height.0 ++ be4 s.now.round.0)) out.old }
-{
-    let _ = put(out, 0, &s.word.bytes());
-    let _ = put(out, 4, &s.height.0.to_be_bytes());
-    let _ = put(out, 8, &s.round.0.to_be_bytes());
-}
-
-fn fill_page(page: &Option<Slip>, out: &mut [u8])
-    requires { length out.old ≡ 84 }
-    ensures written { out.new ≡ wrote 12 (page_bytes page.now) out.old }
-    ensures len { length (page_bytes page.now) ≡ 72 }
-{
-    let _ = match page {
-        Some(slip) => slip.write(out, 12),
-        None => put(out, 12, &NO_SLIP),
-    };
+    bytes
 }

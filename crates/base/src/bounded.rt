@@ -1,0 +1,115 @@
+// A list of at most N values in fixed memory.
+ghost use Rattle.std.specs.Prelude.{◌≤◌, take, length};
+ghost use Rattle.std.specs.Fn.{FnOnceReturnsAtMut};
+
+use std::alloc::AllocError;
+
+// The first `len` slots hold the values; what the others hold counts for nothing.
+#[derive(Copy)]
+pub struct Bounded<T, const N: usize> {
+    slots: [T; N],
+    len: usize,
+    ghost fits: { len ≤ N },
+}
+
+impl<T: Copy, const N: usize> Clone for Bounded<T, N> {
+    ghost use Rattle.std.specs.Prelude.{◌≡◌, ⊤};
+
+    ghost is_clone = { λ held copy. copy ≡ held };
+
+    ghost is_infallible = { λ _. ⊤ };
+
+    fn clone(&self) -> Result<Self, AllocError> {
+        Ok(*self)
+    }
+}
+
+impl<T: Copy, const N: usize> Bounded<T, N> {
+    ghost use Rattle.std.specs.Prelude.{◌≡◌, ◌≤◌, ◌<◌, ◌+◌, ◌∷◌, ◌++◌, [], length, cond, Some, None, nat_le, nat_lt, take};
+    ghost use Rattle.std.specs.Option.{option_map};
+    ghost use Rattle.base.specs.Bounded.{items};
+
+    // No value yet; `blank` stands in every slot.
+    pub fn empty(blank: T) -> Bounded<T, N>
+        ensures { items result ≡ [] }
+    {
+        Bounded {
+            slots: [blank; N],
+            len: 0,
+        }
+    }
+
+    // The values of a slice; none where they are more than N.
+    pub fn from_slice(values: &[T], blank: T) -> Option<Bounded<T, N>>
+        ensures { option_map items result ≡ cond (nat_le (length values.now) N) (Some values.now) None }
+    {
+        let mut kept = Bounded::empty(blank);
+        kept.extend(values).then_some(kept)
+    }
+
+    // The values.
+    pub fn as_slice(&self) -> &[T]
+        ensures is { result.now ≡ items self.now }
+        ensures fits { length result.now ≤ N }
+    {
+        &self.slots[..self.len]
+    }
+
+    // Whether N values are held.
+    pub fn is_full(&self) -> bool
+        ensures { result ≡ nat_le N (length (items self.now)) }
+    {
+        self.len == N
+    }
+
+    // Puts a value last; says whether it fits.
+    pub fn push(&mut self, value: T) -> bool
+        ensures fits { result ≡ nat_lt (length (items self.old)) N }
+        ensures items { items self.new ≡ cond result (items self.old ++ value ∷ []) (items self.old) }
+    {
+        if self.len == N {
+            return false;
+        }
+        self.slots[self.len] = value;
+        self.len += 1;
+        true
+    }
+
+    // Puts values last, all of them or, where they do not fit, none. Says whether they fit.
+    pub fn extend(&mut self, values: &[T]) -> bool
+        ensures fits { result ≡ nat_le (length (items self.old) + length values.now) N }
+        ensures items { items self.new ≡ cond result (items self.old ++ values.now) (items self.old) }
+    {
+        if values.len() > N - self.len {
+            return false;
+        }
+        let end = self.len + values.len();
+        let slots = &mut self.slots[..];
+        slots[self.len..end].copy_from_slice(values);
+        self.len = end;
+        true
+    }
+}
+
+impl<T: Copy, const N: usize> Bounded<T, N> {
+    ghost use Rattle.std.specs.Prelude.{◌≡◌};
+    ghost use Rattle.std.specs.Fn.{FnOnceReturnsAtMut};
+    ghost use Rattle.base.specs.Bounded.{items};
+
+    // Lends the values to a change.
+    pub fn change<F: FnOnce(&mut [T])>(&mut self, change: F)
+        requires { F.IsAlwaysCallable change }
+        ensures { FnOnceReturnsAtMut F.FnOnce change (items self.old) tt (items self.new) }
+    {
+        change_front(&mut self.slots, self.len, change);
+    }
+}
+
+// Lends the first `len` elements to a change.
+fn change_front<T: Copy, F: FnOnce(&mut [T])>(slots: &mut [T], len: usize, change: F)
+    requires always { F.IsAlwaysCallable change }
+    requires there { len ≤ length slots.old }
+    ensures { FnOnceReturnsAtMut F.FnOnce change (take len slots.old) tt (take len slots.new) }
+{
+    change(&mut slots[..len]);
+}
