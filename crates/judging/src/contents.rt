@@ -1,6 +1,5 @@
 // What a message is, and about which slip.
 ghost use Rattle.std.specs.Prelude.{◌≡◌};
-ghost use Rattle.std.specs.Str.{bytes_eq};
 ghost use Rattle.message.specs.Encoding.{kind_in};
 ghost use Rattle.protocol.specs.Judging.{slip_in, on_chain};
 ghost use Rattle.judging.specs.Views.{sent_of};
@@ -40,11 +39,5 @@ pub fn slip_of(m: &Message<'_>) -> Option<Slip>
 pub fn on_chain(last: &Mark, slip: &Slip) -> bool
     ensures { result ≡ on_chain last.now slip.now }
 {
-    same_mark(&slip.parent, last) && !all_zero(&slip.own.0)
-}
-
-fn same_mark(a: &Mark, b: &Mark) -> bool
-    ensures { result ≡ bytes_eq a.now.0 b.now.0 }
-{
-    a == b
+    slip.parent == *last && !all_zero(&slip.own.0)
 }

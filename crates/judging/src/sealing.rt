@@ -1,13 +1,13 @@
 // Under which seals a message stands.
 ghost use Rattle.std.specs.Prelude.{◌≡◌, ◌≤◌, true, [], ◌∷◌, length};
+ghost use Rattle.base.specs.Refusals.{passing};
 ghost use Rattle.base.specs.Statements.{statement_bytes};
-ghost use Rattle.message.specs.Contents.{change, select, decide};
 ghost use Rattle.message.specs.Layout.{left, whole};
 ghost use Rattle.message.specs.Views.{place_of};
 ghost use Rattle.message.specs.Wholes.{WholeCert, Whole};
-ghost use Rattle.protocol.specs.Judging.{height_in, round_in, vote_checks, lock_checks, checks_of, bad_seal};
+ghost use Rattle.protocol.specs.Judging.{height_in, round_in, vote_checks, cert_checks, checks_of, bad_seal};
 ghost use Rattle.protocol.specs.Rounds.{says};
-ghost use Rattle.judging.specs.Parts.{own_check, own_and_votes, release_checks};
+ghost use Rattle.judging.specs.Parts.{own_check, change_checks, release_checks};
 ghost use Rattle.judging.specs.Views.{sent_of, cert_of, locked_of, votes_at};
 
 use base::counters::Member;
@@ -19,164 +19,123 @@ use message::readers::{Part, Reader};
 use message::shapes::{Certificate, Head, Holds, LockMessage, Message};
 use seal::sealers::Checker;
 
-// The statement of a word about a page, for the height and round of a message.
-fn statement(word: Word, head: Head, page: Option<Slip>) -> Statement
-    ensures { result ≡ says word (height_in head) (round_in head) page }
-{
-    Statement {
-        word,
-        height: head.height,
-        round: head.round,
-        page,
-    }
-}
-
-// Whether the checker recognises a part of a message as a member's seal on the statement.
-fn stands<C: Checker>(checker: &C, member: Member, statement: &Statement, part: Part<'_>) -> bool
-    ensures { result ≡ C.Checker.recognised checker.now member.0 (statement_bytes statement.now) part.entry.bytes.now }
-{
-    checker.recognises(member, statement.to_bytes().as_slice(), part.bytes)
-}
-
-// The first of the quorum's seals that is not recognised.
-fn bad_vote<C: Checker>(
-    checker: &C,
-    statement: &Statement,
-    mut votes: Reader<'_>,
+// Who checks the seals of a message, or of the lock inside one, and what the head of that says.
+#[derive(Clone, Copy)]
+struct Seals<'a, C> {
+    checker: &'a C,
+    head: Head,
     inside: bool,
-) -> Option<Refusal>
-    ensures { whole (place_of votes.entry) ≡ true → length (left (place_of votes.entry)) ≤ 7 → result ≡ bad_seal (C.Checker.recognised checker.now) (vote_checks 2 inside statement.now (votes_at (place_of votes.entry))) }
-{
-    let mut place = 2u8;
-    while let Some(vote) = body(&mut votes) {
-        if !stands(checker, vote.member, statement, vote.part) {
-            return Some(Refusal::BadSeal { place, inside });
+}
+
+impl<C: Checker> Seals<'_, C> {
+    // The statement of a word about a page, for the height and round of the message.
+    fn statement(&self, word: Word, page: Option<Slip>) -> Statement
+        ensures { result ≡ says word (height_in self.now.head) (round_in self.now.head) page }
+    {
+        Statement {
+            word,
+            height: self.head.height,
+            round: self.head.round,
+            page,
         }
-        place = place.saturating_add(1);
     }
-    None
+
+    // Whether the checker recognises a part of the message as a member's seal on the statement.
+    fn stands(&self, member: Member, statement: &Statement, part: Part<'_>) -> bool
+        ensures { result ≡ C.Checker.recognised self.now.checker.now member.0 (statement_bytes statement.now) part.entry.bytes.now }
+    {
+        self.checker
+            .recognises(member, statement.to_bytes().as_slice(), part.bytes)
+    }
+
+    // Refused where a seal of the sender's own, at its place, is not recognised.
+    fn own(&self, word: Word, page: Option<Slip>, part: Part<'_>, place: u8) -> Result<(), Refusal>
+        ensures { result ≡ passing (bad_seal (C.Checker.recognised self.now.checker.now) (own_check self.now.inside place self.now.head word page part.entry.bytes.now ∷ [])) }
+    {
+        if self.stands(self.head.sender, &self.statement(word, page), part) {
+            Ok(())
+        } else {
+            Err(Refusal::BadSeal {
+                place,
+                inside: self.inside,
+            })
+        }
+    }
+
+    // Refused at the first of the quorum's seals that is not recognised.
+    fn votes(&self, statement: &Statement, mut votes: Reader<'_>) -> Result<(), Refusal>
+        ensures { whole (place_of votes.entry) ≡ true → length (left (place_of votes.entry)) ≤ 7 → result ≡ passing (bad_seal (C.Checker.recognised self.now.checker.now) (vote_checks 2 self.now.inside statement.now (votes_at (place_of votes.entry)))) }
+    {
+        // Kept: a reader of bodies is no iterator, so the place is counted beside it.
+        let mut place = 2u8;
+        while let Some(vote) = body(&mut votes) {
+            if !self.stands(vote.member, statement, vote.part) {
+                return Err(Refusal::BadSeal {
+                    place,
+                    inside: self.inside,
+                });
+            }
+            place = place.saturating_add(1);
+        }
+        Ok(())
+    }
+
+    // Refused at the first seal of a certificate that is not recognised: the sender's own, then the quorum's, which
+    // state another word about a page.
+    fn certificate(
+        &self,
+        c: &Certificate<'_>,
+        own: Word,
+        others: Word,
+        page: Option<Slip>,
+    ) -> Result<(), Refusal>
+        ensures { WholeCert c.now → result ≡ passing (bad_seal (C.Checker.recognised self.now.checker.now) (cert_checks self.now.inside own others page self.now.head (cert_of c.now))) }
+    {
+        self.own(own, Some(c.slip), c.own, 1)?;
+        self.votes(&self.statement(others, page), c.votes)
+    }
+
+    // Refused at the first of the two seals of a change that is not recognised.
+    fn change(&self, page: Option<Slip>, rchg: Part<'_>, cand: Part<'_>) -> Result<(), Refusal>
+        ensures { result ≡ passing (bad_seal (C.Checker.recognised self.now.checker.now) (change_checks self.now.inside self.now.head page rchg.entry.bytes.now cand.entry.bytes.now)) }
+    {
+        let first = u8::from(page.is_some());
+        self.own(Word::Rchg, None, rchg, first)?;
+        self.own(Word::Cand, page, cand, first + 1)
+    }
+
+    // Refused at the first seal of a release that is not recognised: those of the lock inside, then the sender's own.
+    #[tactic(auto, using(crate::proofs::Firsts::goes_on))]
+    fn release(&self, inner: &LockMessage<'_>, own: Part<'_>) -> Result<(), Refusal>
+        ensures { WholeCert inner.now.certificate → result ≡ passing (bad_seal (C.Checker.recognised self.now.checker.now) (release_checks self.now.inside self.now.head (locked_of inner.now) own.entry.bytes.now)) }
+    {
+        let c = &inner.certificate;
+        let lock = Seals {
+            checker: self.checker,
+            head: inner.head,
+            inside: true,
+        };
+        lock.certificate(c, Word::Lock, Word::Cand, Some(c.slip))?;
+        self.own(Word::Rlse, Some(c.slip), own, 1)
+    }
 }
 
-// The first seal of a certificate that is not recognised: the sender's own, then the quorum's.
-fn bad_cert<C: Checker>(
-    checker: &C,
-    head: Head,
-    c: &Certificate<'_>,
-    own: Word,
-    others: &Statement,
-    inside: bool,
-) -> Option<Refusal>
-    ensures { WholeCert c.now → result ≡ bad_seal (C.Checker.recognised checker.now) (own_and_votes inside own head others.now (cert_of c.now)) }
+// Refused at the first seal of a message that is not recognised, with its place in the table of contents. It says so of
+// every message that was read.
+pub fn first_bad_seal<C: Checker>(checker: &C, m: &Message<'_>) -> Result<(), Refusal>
+    ensures { Whole m.now → result ≡ passing (bad_seal (C.Checker.recognised checker.now) (checks_of (sent_of m.now).head (sent_of m.now).content)) }
 {
-    if !stands(
+    let seals = Seals {
         checker,
-        head.sender,
-        &statement(own, head, Some(c.slip)),
-        c.own,
-    ) {
-        return Some(Refusal::BadSeal { place: 1, inside });
-    }
-    bad_vote(checker, others, c.votes, inside)
-}
-
-// The first seal of a lock that is not recognised.
-fn bad_lock<C: Checker>(
-    checker: &C,
-    head: Head,
-    c: &Certificate<'_>,
-    inside: bool,
-) -> Option<Refusal>
-    ensures { WholeCert c.now → result ≡ bad_seal (C.Checker.recognised checker.now) (lock_checks inside head (cert_of c.now)) }
-{
-    let others = statement(Word::Cand, head, Some(c.slip));
-    bad_cert(checker, head, c, Word::Lock, &others, inside)
-}
-
-// The first seal of a select that is not recognised.
-fn bad_select<C: Checker>(checker: &C, head: Head, c: &Certificate<'_>) -> Option<Refusal>
-    ensures { WholeCert c.now → result ≡ bad_seal (C.Checker.recognised checker.now) (checks_of head (select (cert_of c.now))) }
-{
-    let others = statement(Word::Rchg, head, None);
-    bad_cert(checker, head, c, Word::Slct, &others, false)
-}
-
-// The first seal of a decide that is not recognised.
-fn bad_decide<C: Checker>(checker: &C, head: Head, c: &Certificate<'_>) -> Option<Refusal>
-    ensures { WholeCert c.now → result ≡ bad_seal (C.Checker.recognised checker.now) (checks_of head (decide (cert_of c.now))) }
-{
-    let others = statement(Word::Cmit, head, Some(c.slip));
-    bad_cert(checker, head, c, Word::Dcid, &others, false)
-}
-
-// A seal of the sender's own, at its place, if it is not recognised.
-fn bad_own<C: Checker>(
-    checker: &C,
-    head: Head,
-    word: Word,
-    page: Option<Slip>,
-    part: Part<'_>,
-    place: u8,
-) -> Option<Refusal>
-    ensures { result ≡ bad_seal (C.Checker.recognised checker.now) (own_check place head word page part.entry.bytes.now ∷ []) }
-{
-    if stands(checker, head.sender, &statement(word, head, page), part) {
-        None
-    } else {
-        Some(Refusal::BadSeal {
-            place,
-            inside: false,
-        })
-    }
-}
-
-// The first of the two seals of a change that is not recognised.
-fn bad_change<C: Checker>(
-    checker: &C,
-    head: Head,
-    page: Option<Slip>,
-    rchg: Part<'_>,
-    cand: Part<'_>,
-) -> Option<Refusal>
-    ensures { result ≡ bad_seal (C.Checker.recognised checker.now) (checks_of head (change page rchg.entry.bytes.now cand.entry.bytes.now)) }
-{
-    let first = match page {
-        Some(_) => 1,
-        None => 0,
+        head: m.head,
+        inside: false,
     };
-    match bad_own(checker, head, Word::Rchg, None, rchg, first) {
-        Some(why) => Some(why),
-        None => bad_own(checker, head, Word::Cand, page, cand, first + 1),
-    }
-}
-
-// The first seal of a release that is not recognised: those of the lock inside, then the sender's own.
-fn bad_release<C: Checker>(
-    checker: &C,
-    head: Head,
-    inner: &LockMessage<'_>,
-    own: Part<'_>,
-) -> Option<Refusal>
-    ensures { WholeCert inner.now.certificate → result ≡ bad_seal (C.Checker.recognised checker.now) (release_checks head (locked_of inner.now) own.entry.bytes.now) }
-{
-    let c = &inner.certificate;
-    match bad_lock(checker, inner.head, c, true) {
-        Some(why) => Some(why),
-        None => bad_own(checker, head, Word::Rlse, Some(c.slip), own, 1),
-    }
-}
-
-// The first seal of a message that is not recognised, with its place in the table of contents. It says so of every
-// message that was read.
-pub fn first_bad_seal<C: Checker>(checker: &C, m: &Message<'_>) -> Option<Refusal>
-    ensures { Whole m.now → result ≡ bad_seal (C.Checker.recognised checker.now) (checks_of (sent_of m.now).head (sent_of m.now).content) }
-{
-    let head = m.head;
     match &m.holds {
-        Holds::Change { page, rchg, cand } => bad_change(checker, head, *page, *rchg, *cand),
-        Holds::Lock(c) => bad_lock(checker, head, c, false),
-        Holds::Select(c) => bad_select(checker, head, c),
-        Holds::Commit { slip, seal } => bad_own(checker, head, Word::Cmit, Some(*slip), *seal, 1),
-        Holds::Decide(c) => bad_decide(checker, head, c),
-        Holds::Release { inner, own, .. } => bad_release(checker, head, inner, *own),
+        Holds::Change { page, rchg, cand } => seals.change(*page, *rchg, *cand),
+        Holds::Lock(c) => seals.certificate(c, Word::Lock, Word::Cand, Some(c.slip)),
+        Holds::Select(c) => seals.certificate(c, Word::Slct, Word::Rchg, None),
+        Holds::Commit { slip, seal } => seals.own(Word::Cmit, Some(*slip), *seal, 1),
+        Holds::Decide(c) => seals.certificate(c, Word::Dcid, Word::Cmit, Some(c.slip)),
+        Holds::Release { inner, own, .. } => seals.release(inner, *own),
     }
 }

@@ -38,13 +38,14 @@ fn cert_familiar(pool: Pool, head: Head, c: &Certificate<'_>) -> bool
 fn from_leader(pool: Pool, head: Head) -> bool
     ensures { result ≡ from_leader pool head }
 {
-    head.sender.0 == pool.leader(head.height, head.round).0
+    head.sender == pool.leader(head.height, head.round)
 }
 
 // Whether the members in whose names the bodies before the reader stand are the pool's.
 fn all_members(pool: Pool, mut votes: Reader<'_>) -> bool
     ensures { whole (place_of votes.entry) ≡ true → result ≡ all_members pool (votes_at (place_of votes.entry)) }
 {
+    // Kept: a reader of bodies is no iterator, so there is no `all`.
     while let Some(vote) = body(&mut votes) {
         if !pool.has(vote.member) {
             return false;

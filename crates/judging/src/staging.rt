@@ -12,21 +12,14 @@ pub fn advance(stage: &mut Stage, kind: Kind, own: Round, round: Round) -> bool
     ensures after { stage.new ≡ stage_after stage.old kind (nat_lt own.0 round.0) }
     ensures table { ByKind }
 {
+    let led = own < round || matches!(*stage, Stage::Locking);
     match (*stage, kind) {
-        (_, Kind::Change) => true,
-        (_, Kind::Lock) if own.0 < round.0 => {
+        (_, Kind::Change) | (Stage::Releasing, Kind::Release) => true,
+        (_, Kind::Lock) if led => {
             *stage = Stage::Committing;
             true
         }
-        (Stage::Locking, Kind::Lock) => {
-            *stage = Stage::Committing;
-            true
-        }
-        (_, Kind::Select) if own.0 < round.0 => {
-            *stage = Stage::Releasing;
-            true
-        }
-        (Stage::Locking, Kind::Select) => {
+        (_, Kind::Select) if led => {
             *stage = Stage::Releasing;
             true
         }
@@ -34,7 +27,6 @@ pub fn advance(stage: &mut Stage, kind: Kind, own: Round, round: Round) -> bool
             *stage = Stage::Resting;
             true
         }
-        (Stage::Releasing, Kind::Release) => true,
         _ => false,
     }
 }
