@@ -1,5 +1,5 @@
 -- What a refusal tells: its number, and the values it carries.
-use Rattle.std.specs.Prelude.{ℕ, cond, List, [], ◌∷◌}
+use Rattle.std.specs.Prelude.{ℕ, cond, List, [], ◌∷◌, Some, None, Option, Ok, Err, Result}
 use Rattle.base.specs.declared.refusals.Refusal.{Refusal}
 use Rattle.base.specs.declared.refusals.Refusal.TheVariants.{Misshapen, Stranger, PastHeight, LaterHeight, WrongRound, OutOfStage, BadSeal, OffChain, NotAdmitted, Contradiction, CandidatesFull, WornSealer, OutboxShort, NotYourTurn, NotYet, TurnPast, Unlawful, BooksEnd, FewRecords}
 
@@ -24,3 +24,8 @@ told TurnPast = 16 ∷ []
 told Unlawful = 17 ∷ []
 told BooksEnd = 18 ∷ []
 told FewRecords = 19 ∷ []
+
+-- the first refusal, if any, as an answer: it passes where there is none
+abbrev pub passing : Option Refusal → Result Unit Refusal
+passing None = Ok tt
+passing (Some why) = Err why
