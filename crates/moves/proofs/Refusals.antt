@@ -1,5 +1,6 @@
 -- A call's judgement, by the refusal that it meets first.
 use Rattle.std.proofs.Common.{◌≡◌, ℕ, ◌+◌, Bool, true, false, cond, ◌&&◌, ltb, leb, List, Some, None, Ok, Err, Option, Result, sym, refl, ap, ◌∙◌, arith}
+use Rattle.base.specs.Refusals.{passing}
 use Rattle.base.specs.declared.refusals.Refusal.{Refusal}
 use Rattle.base.specs.declared.refusals.Refusal.TheVariants.{Stranger, OutOfStage, OffChain, NotAdmitted, CandidatesFull, Unlawful}
 use Rattle.base.specs.declared.slips.Slip.{Slip}
@@ -36,7 +37,7 @@ offer_judged b s =
     (tested (has_place s b.view.candidates) CandidatesFull None _ _ refl)))
 
 -- what is not refused has a place
-pub offer_placed : (b : Box) (s : Slip) → None ≡ offer_refused b s → has_place s b.view.candidates ≡ true
+pub offer_placed : (b : Box) (s : Slip) → Ok tt ≡ passing (offer_refused b s) → has_place s b.view.candidates ≡ true
 offer_placed b s e = grind (arith, nat_tests)
 
 pub begin_judged : (b : Box) → judge_begin b ≡ unless_bad (begin_refused b) (Ok (stating b taken b.view 0))
@@ -77,10 +78,19 @@ module _ (b : Box) (k : ℕ) where
     pub tick_moves : false ≡ ltb (b.view.ticks + k) time → timed_out b b.view.stage ≡ ticked b k
     tick_moves due = goes_by true (grind (arith, nat_tests))
 
+-- an answer that passes, and one that is a refusal
+pub refused_as : (o : Option Refusal) (why : Refusal) → Err why ≡ passing o → Some why ≡ o
+refused_as None why e = cc
+refused_as (Some w) why e = cc
+
+pub passed_as : (o : Option Refusal) → Ok tt ≡ passing o → None ≡ o
+passed_as None e = refl
+passed_as (Some w) e = cc
+
 -- refused by the first test that fails, or judged on
 module _ {X : Type 0} (b : Box) (f : ℕ) (out : List ℕ) (o : Option Refusal) (j rest : Result (Plan X) Refusal) (judged : j ≡ unless_bad o rest) where
-  pub is_refused : (why : Refusal) → Some why ≡ o → Outcome b b f f out out j (Err why)
-  is_refused why e = outcome_as b b f f out out (Err why) j (Err why) (sym (judged ∙ ap (λ x. unless_bad x rest) (sym e))) (ends_refused b b f f out out refl refl why refl)
+  pub is_refused : (why : Refusal) → Err why ≡ passing o → Outcome b b f f out out j (Err why)
+  is_refused why e = outcome_as b b f f out out (Err why) j (Err why) (sym (judged ∙ ap (λ x. unless_bad x rest) (sym (refused_as o why e)))) (ends_refused b b f f out out refl refl why refl)
 
-  pub is_judged : None ≡ o → rest ≡ j
-  is_judged e = sym (judged ∙ ap (λ x. unless_bad x rest) (sym e))
+  pub is_judged : Ok tt ≡ passing o → rest ≡ j
+  is_judged e = sym (judged ∙ ap (λ x. unless_bad x rest) (sym (passed_as o e)))
