@@ -8,6 +8,7 @@ use Rattle.base.specs.declared.stages.Stage.{Stage}
 use Rattle.base.specs.declared.stages.Stage.TheVariants.{Resting, Changing, Locking, Committing, Releasing}
 use Rattle.holding.specs.Outcome.{Outcome}
 use Rattle.holding.proofs.Endings.{outcome_as, ends_refused}
+use Rattle.holding.proofs.Passing.{passed_as, refused_as}
 use Rattle.protocol.specs.Calls.{judge_offer, judge_begin, judge_tick, time_of, timed_out}
 use Rattle.protocol.specs.Judging.{on_chain}
 use Rattle.protocol.specs.Messages.{Answer, taken, unless_bad}
@@ -77,15 +78,6 @@ module _ (b : Box) (k : ℕ) where
 
     pub tick_moves : false ≡ ltb (b.view.ticks + k) time → timed_out b b.view.stage ≡ ticked b k
     tick_moves due = goes_by true (grind (arith, nat_tests))
-
--- an answer that passes, and one that is a refusal
-pub refused_as : (o : Option Refusal) (why : Refusal) → Err why ≡ passing o → Some why ≡ o
-refused_as None why e = cc
-refused_as (Some w) why e = cc
-
-pub passed_as : (o : Option Refusal) → Ok tt ≡ passing o → None ≡ o
-passed_as None e = refl
-passed_as (Some w) e = cc
 
 -- refused by the first test that fails, or judged on
 module _ {X : Type 0} (b : Box) (f : ℕ) (out : List ℕ) (o : Option Refusal) (j rest : Result (Plan X) Refusal) (judged : j ≡ unless_bad o rest) where

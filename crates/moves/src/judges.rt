@@ -1,13 +1,10 @@
 // Judging a message: its refusals in their one order.
-ghost use Rattle.std.specs.Prelude.{◌≡◌, nat_lt};
+ghost use Rattle.std.specs.Prelude.{◌≡◌};
 ghost use Rattle.base.specs.Refusals.{passing};
-ghost use Rattle.message.specs.Encoding.{kind_in};
 ghost use Rattle.message.specs.Wholes.{Whole};
 ghost use Rattle.holding.specs.Views.{view_of};
-ghost use Rattle.judging.specs.Table.{stage_after};
 ghost use Rattle.judging.specs.Views.{sent_of};
-ghost use Rattle.protocol.specs.Judging.{bad_seal, checks_of, round_in};
-ghost use Rattle.moves.specs.Verdict.{arrival, slip_verdict, standing, verdict, judged_as, Leads};
+ghost use Rattle.moves.specs.Verdict.{arrival, slip_verdict, standing, verdict, judged_as, Leads, stage_led_to};
 
 use base::counters::{Height, Member};
 use base::pools::Pool;
@@ -17,17 +14,16 @@ use base::stages::Stage;
 use holding::cores::{Boxed, Core};
 use holding::states::State;
 use judging::contents::{kind_of, on_chain, slip_of};
-use judging::sealing::first_bad_seal;
 use judging::speakers::familiar;
 use judging::staging::advance;
 use message::shapes::Message;
 use rules::rulebooks::Rulebook;
-use seal::sealers::{Checker, Sealer};
+use seal::sealers::Sealer;
 
 // Where a message comes: its height, who speaks, its round, and the stage that it leads to if the replica's takes it.
 fn arrive(state: &State, pool: Pool, m: &Message<'_>) -> Result<Stage, Refusal>
     ensures refuses { Whole m.now → judged_as result ≡ arrival pool (view_of pool state.now) (sent_of m.now) }
-    ensures leads { Leads result (stage_after state.now.stage (kind_in (sent_of m.now).content) (nat_lt state.now.round.0 (round_in (sent_of m.now).head))) }
+    ensures leads { Leads result (stage_led_to state.now (sent_of m.now)) }
 {
     if m.head.height < state.height {
         return Err(Refusal::PastHeight);
@@ -46,16 +42,6 @@ fn arrive(state: &State, pool: Pool, m: &Message<'_>) -> Result<Stage, Refusal>
         return Err(Refusal::OutOfStage);
     }
     Ok(stage)
-}
-
-// A message's seals are recognised.
-fn judge_seals<C: Checker>(checker: &C, m: &Message<'_>) -> Result<(), Refusal>
-    ensures { Whole m.now → result ≡ passing (bad_seal (C.Checker.recognised checker.now) (checks_of (sent_of m.now).head (sent_of m.now).content)) }
-{
-    match first_bad_seal(checker, m) {
-        Some(why) => Err(why),
-        None => Ok(()),
-    }
 }
 
 // The slip of a page, if any, stands on the last page, and the rulebook admits it.
@@ -102,12 +88,12 @@ pub(crate) fn judge<S: Sealer, R: Rulebook>(
     m: &Message<'_>,
 ) -> Result<Stage, Refusal>
     ensures refuses { Whole m.now → judged_as result ≡ verdict (⟦<Core<S, R> as Boxed>⟧.boxed core.now) (sent_of m.now) }
-    ensures leads { Leads result (stage_after core.now.state.stage (kind_in (sent_of m.now).content) (nat_lt core.now.state.round.0 (round_in (sent_of m.now).head))) }
+    ensures leads { Leads result (stage_led_to core.now.state (sent_of m.now)) }
 {
     let state = &core.state;
     let pool = core.settings.pool;
     let stage = arrive(state, pool, m)?;
-    judge_seals(&core.sealer, m)?;
+    core.judge_seals(m)?;
     judge_slip(&core.rules, state.height, &state.last, &slip_of(m))?;
     judge_standing(state, pool, core.sealer.member(), m)?;
     Ok(stage)

@@ -1,13 +1,10 @@
 // Taking a message: read, judged in the one order of refusals, then acted on by its kind.
-ghost use Rattle.std.specs.Prelude.{◌≡◌, Some, None, Ok, nat_lt};
+ghost use Rattle.std.specs.Prelude.{◌≡◌, Some, None, Ok};
 ghost use Rattle.holding.specs.Outcome.{Does};
-ghost use Rattle.judging.specs.Table.{stage_after};
 ghost use Rattle.judging.specs.Views.{sent_of};
-ghost use Rattle.message.specs.Encoding.{kind_in};
 ghost use Rattle.message.specs.RoundTrip.{fields};
-ghost use Rattle.moves.specs.Verdict.{verdict};
+ghost use Rattle.moves.specs.Verdict.{stage_led_to, verdict};
 ghost use Rattle.protocol.specs.Answering.{answered};
-ghost use Rattle.protocol.specs.Judging.{round_in};
 ghost use Rattle.protocol.specs.Messages.{judge_message, plan_of};
 
 use crate::judges::judge;
@@ -34,7 +31,7 @@ fn act<S: Sealer, R: Rulebook>(
 ) -> Result<Answer, Refusal>
     requires read { fields core.old.settings.pool S.Checker.seal_long message.now ≡ Some (sent_of m.now) }
     requires passed { verdict (⟦<Core<S, R> as Boxed>⟧.boxed core.old) (sent_of m.now) ≡ None }
-    requires leads { stage ≡ stage_after core.old.state.stage (kind_in (sent_of m.now).content) (nat_lt core.old.state.round.0 (round_in (sent_of m.now).head)) }
+    requires leads { stage ≡ stage_led_to core.old.state (sent_of m.now) }
     ensures { Does ⟦<Core<S, R> as Boxed>⟧.boxed core.old core.new fill.old.len fill.new.len out.old out.new (λ b. Ok (plan_of b message.now (sent_of m.now).head (sent_of m.now).content)) (answered result) }
 {
     match &m.holds {
