@@ -1,4 +1,5 @@
 pub mod Changes
 pub mod Endings
 pub mod Members
+pub mod Passing
 pub mod Sizes

@@ -1,5 +1,5 @@
 -- How a call of the program ends: everything is the defined outcome of the call, at some seals that are the sealer's own.
-use Rattle.std.specs.Prelude.{◌≡◌, ℕ, ◌+◌, List, length, Some, None, Option, Result}
+use Rattle.std.specs.Prelude.{◌≡◌, ℕ, ◌+◌, List, [], length, Some, None, Option, Result}
 use Rattle.base.specs.Writing.{wrote}
 use Rattle.base.specs.declared.refusals.Refusal.{Refusal}
 use Rattle.protocol.specs.Plans.{Plan, Done, settled}
@@ -39,3 +39,11 @@ pub record Outcome {X : Type 0} (before after : Box) (fill fill' : ℕ) (out out
   pub seals : List (List ℕ)
   pub good : Good before.sealer (settled before fill (length out) judged seals).sealed seals
   pub ends : Ends before after fill fill' out out' r (settled before fill (length out) judged seals)
+
+-- what a call makes of a replica is the outcome of its judge, with the outbox and the fill that are lent to it
+abbrev pub Does : {C X : Type 0} → (C → Box) → C → C → ℕ → ℕ → List ℕ → List ℕ → (Box → Result (Plan X) Refusal) → Result X Refusal → Type 0
+Does boxed before after fill fill' out out' judge r = Outcome (boxed before) (boxed after) fill fill' out out' (judge (boxed before)) r
+
+-- the same of a call to which no outbox is lent
+abbrev pub DoesAlone : {C X : Type 0} → (C → Box) → C → C → (Box → Result (Plan X) Refusal) → Result X Refusal → Type 0
+DoesAlone boxed before after judge r = Does boxed before after 0 0 [] [] judge r

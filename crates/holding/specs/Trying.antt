@@ -17,7 +17,7 @@ pool_of n = cond (n == 4) (Some Four) (cond (n == 7) (Some Seven) (cond (n == 10
 -- what is asked for, once the pool is known
 abbrev pub asked : Terms → ℕ × (Pool → protocol.Settings)
 asked t =
-    (t.members, λ pool. record { pool = pool; start_height = t.start_height.0; start_mark = t.start_mark; d0 = t.d0; d1 = t.d1; d2 = t.d2; d3 = t.d3; g = t.g })
+    (t.members, λ pool. record { pool = pool; start_height = t.start_height.0; start_mark = t.start_mark; d0 = t.times.d0; d1 = t.times.d1; d2 = t.times.d2; d3 = t.times.d3; g = t.times.g })
 
 abbrev pub tried_in : (Pool → protocol.Settings) → Option Pool → Result protocol.Settings Refusal
 tried_in terms None = Err Unlawful

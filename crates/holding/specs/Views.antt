@@ -18,7 +18,7 @@ use Rattle.std.specs.Option.{option_map}
 
 abbrev pub settings_view : Settings → protocol.Settings
 settings_view s =
-    record { pool = s.pool; start_height = s.start_height.0; start_mark = s.start_mark; d0 = s.d0; d1 = s.d1; d2 = s.d2; d3 = s.d3; g = s.g }
+    record { pool = s.pool; start_height = s.start_height.0; start_mark = s.start_mark; d0 = s.times.d0; d1 = s.times.d1; d2 = s.times.d2; d3 = s.times.d3; g = s.times.g }
 
 -- what a replica of a pool holds: of the ten places for statements those of the pool's members
 abbrev pub view_of : Pool → State → View

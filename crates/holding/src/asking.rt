@@ -7,6 +7,7 @@ ghost use Rattle.judging.specs.Views.{sent_of, locked_of};
 ghost use Rattle.protocol.specs.Judging.{latest_of, not_before, of_slip, round_in, sender_in, round_taken, repeats, other_page, contradicts, above_all, outranks, placed, goes_on};
 ghost use Rattle.protocol.specs.Rounds.{has_place, locks_of};
 ghost use Rattle.shelf.specs.Views.{shelf_view};
+ghost use Rattle.holding.specs.Placing.{place_for, place_for_page, repeats_in};
 ghost use Rattle.holding.specs.Views.{view_of};
 
 use crate::states::State;
@@ -20,30 +21,25 @@ use message::shapes::{Head, Holds, LockMessage, Message};
 fn not_before(latest: &Option<Latest>, round: Round) -> bool
     ensures { result ≡ not_before round.0 (option_map latest_view latest.now) }
 {
-    match latest {
-        Some(stated) => stated.round.0 <= round.0,
-        None => true,
-    }
+    latest.as_ref().is_none_or(|stated| stated.round <= round)
 }
 
 // Whether a statement repeats the latest one: of the same round, with the same page.
 pub fn repeats(latest: &Option<Latest>, round: Round, page: &Option<Slip>) -> bool
     ensures { result ≡ repeats round.0 page.now (option_map latest_view latest.now) }
 {
-    match latest {
-        Some(stated) => stated.round.0 == round.0 && same_page(&stated.page, page),
-        None => false,
-    }
+    latest
+        .as_ref()
+        .is_some_and(|stated| stated.round == round && same_page(&stated.page, page))
 }
 
 // Whether the latest statement is of the same round, with another page.
 fn differs(latest: &Option<Latest>, round: Round, page: &Option<Slip>) -> bool
     ensures { result ≡ other_page round.0 page.now (option_map latest_view latest.now) }
 {
-    match latest {
-        Some(stated) => stated.round.0 == round.0 && !same_page(&stated.page, page),
-        None => false,
-    }
+    latest
+        .as_ref()
+        .is_some_and(|stated| stated.round == round && !same_page(&stated.page, page))
 }
 
 impl State {
@@ -60,7 +56,7 @@ impl State {
 
     // Whether a change under that head, with that page, repeats its sender's latest statement.
     pub fn repeated(&self, pool: Pool, head: &Head, page: &Option<Slip>) -> bool
-        ensures { result ≡ repeats (round_in head.now) page.now (latest_of (view_of pool self.now) (sender_in head.now)) }
+        ensures { result ≡ repeats_in (view_of pool self.now) head.now page.now }
     {
         repeats(&self.latest_of(pool, head.sender), head.round, page)
     }
@@ -72,11 +68,11 @@ impl State {
     {
         let round = m.head.round;
         match &m.holds {
-            Holds::Change { .. } => self.round.0 <= round.0
+            Holds::Change { .. } => self.round <= round
                 && not_before(&self.latest_of(pool, m.head.sender), round),
-            Holds::Lock(_) | Holds::Select(_) => self.round.0 <= round.0,
+            Holds::Lock(_) | Holds::Select(_) => self.round <= round,
             Holds::Commit { .. } | Holds::Decide(_) => true,
-            Holds::Release { .. } => self.round.0 == round.0,
+            Holds::Release { .. } => self.round == round,
         }
     }
 
@@ -93,11 +89,11 @@ impl State {
 
     // The same of a change under that head, with that page.
     fn gainsays(&self, pool: Pool, own: Member, head: &Head, page: &Option<Slip>) -> bool
-        ensures { result ≡ (other_page (round_in head.now) page.now (latest_of (view_of pool self.now) (sender_in head.now)) || (sender_in head.now == own.0 && not (repeats (round_in head.now) page.now (latest_of (view_of pool self.now) (sender_in head.now))))) }
+        ensures { result ≡ (other_page (round_in head.now) page.now (latest_of (view_of pool self.now) (sender_in head.now)) || (sender_in head.now == own.0 && not (repeats_in (view_of pool self.now) head.now page.now))) }
     {
         let latest = self.latest_of(pool, head.sender);
         differs(&latest, head.round, page)
-            || (head.sender.0 == own.0 && !repeats(&latest, head.round, page))
+            || (head.sender == own && !repeats(&latest, head.round, page))
     }
 
     // Whether a lock's round is above that of every lock held.
@@ -109,24 +105,22 @@ impl State {
 
     // Whether the slip of a page, if any, is among the candidates or there is room for it.
     fn page_placed(&self, page: &Option<Slip>) -> bool
-        ensures { result ≡ of_slip (λ s. has_place s (shelf_view self.now.candidates)) page.now }
+        ensures { result ≡ place_for_page self.now page.now }
     {
-        match page {
-            Some(slip) => self.candidates.has_place(slip),
-            None => true,
-        }
+        page.as_ref()
+            .is_none_or(|slip| self.candidates.has_place(slip))
     }
 
     // Whether a change under that head, with that page, is a repeat or its slip has a place.
     fn change_placed(&self, pool: Pool, head: &Head, page: &Option<Slip>) -> bool
-        ensures { result ≡ (repeats (round_in head.now) page.now (latest_of (view_of pool self.now) (sender_in head.now)) || of_slip (λ s. has_place s (shelf_view self.now.candidates)) page.now) }
+        ensures { result ≡ (repeats_in (view_of pool self.now) head.now page.now || place_for_page self.now page.now) }
     {
         self.repeated(pool, head, page) || self.page_placed(page)
     }
 
     // Whether the lock of a release has no effect or its slip has a place.
     fn lock_placed(&self, inner: &LockMessage<'_>) -> bool
-        ensures { result ≡ (not (above_all (round_in inner.now.head) (locks_of (shelf_view self.now.candidates))) || has_place inner.now.certificate.slip (shelf_view self.now.candidates)) }
+        ensures { result ≡ (not (above_all (round_in inner.now.head) (locks_of (shelf_view self.now.candidates))) || place_for self.now inner.now.certificate.slip) }
     {
         let slip = inner.certificate.slip;
         !self.candidates.above_all(inner.head.round) || self.candidates.has_place(&slip)

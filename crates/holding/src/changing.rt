@@ -10,6 +10,7 @@ ghost use Rattle.protocol.specs.Rounds.{called_for, has_place, highest_round, is
 ghost use Rattle.protocol.specs.State.{Settings};
 ghost use Rattle.shelf.specs.Views.{shelf_view};
 ghost use Rattle.std.specs.Option.{option_map};
+ghost use Rattle.holding.specs.Placing.{place_for, place_for_page};
 ghost use Rattle.holding.specs.Views.{view_of};
 
 use crate::states::State;
@@ -23,7 +24,7 @@ use shelf::held::Held;
 impl State {
     // Shelves the page of a statement, where there is a place for it, and records the statement.
     pub fn note_statement(&mut self, member: Member, latest: Latest)
-        ensures { (pool : Pool) → of_slip (λ s. has_place s (shelf_view self.old.candidates)) latest.page ≡ true → view_of pool self.new ≡ with_latest (with_candidates (view_of pool self.old) (shelved_page latest.page (shelf_view self.old.candidates))) member.0 (latest_view latest) }
+        ensures { (pool : Pool) → place_for_page self.old latest.page ≡ true → view_of pool self.new ≡ with_latest (with_candidates (view_of pool self.old) (shelved_page latest.page (shelf_view self.old.candidates))) member.0 (latest_view latest) }
     {
         if let Some(slip) = &latest.page {
             self.candidates.shelve(slip);
@@ -56,7 +57,7 @@ impl State {
     // Shelves the slip, where there is a place for it, and locks it in the round. The message is held, its first 760
     // bytes, if the round is above that of every lock.
     pub fn lock(&mut self, slip: &Slip, round: Round, message: &[u8])
-        ensures { (pool : Pool) → has_place slip.now (shelf_view self.old.candidates) ≡ true → length message.now ≤ 760 → view_of pool self.new ≡ locked_with (view_of pool self.old) slip.now round.0 (shelf_view self.old.candidates) (holding (view_of pool self.old) slip.now round.0 message.now) }
+        ensures { (pool : Pool) → place_for self.old slip.now ≡ true → length message.now ≤ 760 → view_of pool self.new ≡ locked_with (view_of pool self.old) slip.now round.0 (shelf_view self.old.candidates) (holding (view_of pool self.old) slip.now round.0 message.now) }
     {
         if self.candidates.above_all(round) {
             self.held = Some(Held::new(*slip, round, message));
@@ -68,7 +69,7 @@ impl State {
     // Takes every lock away, shelves the slip, where there is a place for it, and locks it in the round. The message is held,
     // its first 760 bytes.
     pub fn relock(&mut self, slip: &Slip, round: Round, message: &[u8])
-        ensures { (pool : Pool) → has_place slip.entry.now (shelf_view self.old.candidates) ≡ true → length message.now ≤ 760 → view_of pool self.new ≡ locked_with (view_of pool self.old) slip.entry.now round.0 (unlocked (shelf_view self.old.candidates)) (Some (record { slip = slip.entry.now; round = round.0; bytes = message.now })) }
+        ensures { (pool : Pool) → place_for self.old slip.entry.now ≡ true → length message.now ≤ 760 → view_of pool self.new ≡ locked_with (view_of pool self.old) slip.entry.now round.0 (unlocked (shelf_view self.old.candidates)) (Some (record { slip = slip.entry.now; round = round.0; bytes = message.now })) }
     {
         self.candidates.unlock();
         self.lock(slip, round, message);
@@ -76,7 +77,7 @@ impl State {
 
     // Shelves the slip, where there is a place for it, and comes to the round in the same stage.
     pub fn select(&mut self, slip: &Slip, round: Round)
-        ensures { (pool : Pool) → has_place slip.now (shelf_view self.old.candidates) ≡ true → view_of pool self.new ≡ in_round_of (with_candidates (view_of pool self.old) (shelved slip.now (shelf_view self.old.candidates))) round.0 }
+        ensures { (pool : Pool) → place_for self.old slip.now ≡ true → view_of pool self.new ≡ in_round_of (with_candidates (view_of pool self.old) (shelved slip.now (shelf_view self.old.candidates))) round.0 }
     {
         self.candidates.shelve(slip);
         self.come_to(round, self.stage);

@@ -1,6 +1,21 @@
 // A replica with its settings, its sealer and its rulebook.
+ghost use Rattle.std.specs.Prelude.{◌≡◌, nat_lt};
+ghost use Rattle.base.specs.Pools.{members};
+ghost use Rattle.base.specs.Refusals.{passing};
+ghost use Rattle.holding.specs.Views.{box_of};
+ghost use Rattle.judging.specs.Views.{sent_of};
+ghost use Rattle.message.specs.Wholes.{Whole};
+ghost use Rattle.protocol.specs.Judging.{bad_seal, checks_of};
+ghost use Rattle.protocol.specs.State.{Box};
+ghost use Rattle.protocol.specs.Turns.{leads};
+
 use crate::settings::Settings;
 use crate::states::State;
+use base::refusals::Refusal;
+use judging::sealing::first_bad_seal;
+use message::shapes::Message;
+use rules::rulebooks::Rulebook;
+use seal::sealers::Sealer;
 
 #[derive(Drop)]
 pub struct Core<S, R> {
@@ -8,4 +23,41 @@ pub struct Core<S, R> {
     pub sealer: S,
     pub rules: R,
     pub state: State,
+}
+
+// What stands for a replica of the definitions.
+pub trait Boxed {
+    // the replica, as its calls see it
+    ghost boxed: { Self → Box };
+}
+
+impl<S: Sealer, R: Rulebook> Boxed for Core<S, R> {
+    ghost boxed = { box_of S.Sealer.meaning R.Rulebook.admitted R.Rulebook.ranked };
+}
+
+impl<S: Sealer, R: Rulebook> Core<S, R> {
+    // Whether the sealer's number is one of the pool's.
+    pub fn is_member(&self) -> bool
+        ensures { let b = ⟦<Self as Boxed>⟧.boxed self.now in result ≡ nat_lt b.sealer.number (members b.settings.pool) }
+    {
+        self.settings.pool.has(self.sealer.member())
+    }
+
+    // Whether it leads its height and round.
+    pub fn leads(&self) -> bool
+        ensures { result ≡ leads (⟦<Self as Boxed>⟧.boxed self.now) }
+    {
+        let state = &self.state;
+        self.sealer.member() == self.settings.pool.leader(state.height, state.round)
+    }
+
+    // Whether all seals of a message are recognised: refused by the first that is not.
+    pub fn judge_seals(&self, m: &Message<'_>) -> Result<(), Refusal>
+        ensures { Whole m.now → result ≡ passing (bad_seal (⟦<Self as Boxed>⟧.boxed self.now).sealer.knows (checks_of (sent_of m.now).head (sent_of m.now).content)) }
+    {
+        match first_bad_seal(&self.sealer, m) {
+            Some(why) => Err(why),
+            None => Ok(()),
+        }
+    }
 }

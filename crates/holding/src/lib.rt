@@ -7,4 +7,5 @@ pub mod changing;
 pub mod cores;
 pub mod settings;
 pub mod states;
+pub mod times;
 pub mod trials;

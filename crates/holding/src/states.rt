@@ -50,7 +50,7 @@ impl State {
     pub fn come_to(&mut self, round: Round, stage: Stage)
         ensures { (pool : Pool) → view_of pool self.new ≡ moved (view_of pool self.old) round.0 stage }
     {
-        if self.round.0 != round.0 {
+        if self.round != round {
             self.turned = false;
         }
         self.round = round;

@@ -1,5 +1,6 @@
 -- A call's judgement, by the refusal that it meets first.
 use Rattle.std.proofs.Common.{◌≡◌, ℕ, ◌+◌, Bool, true, false, cond, ◌&&◌, ltb, leb, List, Some, None, Ok, Err, Option, Result, sym, refl, ap, ◌∙◌, arith}
+use Rattle.base.specs.Refusals.{passing}
 use Rattle.base.specs.declared.refusals.Refusal.{Refusal}
 use Rattle.base.specs.declared.refusals.Refusal.TheVariants.{Stranger, OutOfStage, OffChain, NotAdmitted, CandidatesFull, Unlawful}
 use Rattle.base.specs.declared.slips.Slip.{Slip}
@@ -7,6 +8,7 @@ use Rattle.base.specs.declared.stages.Stage.{Stage}
 use Rattle.base.specs.declared.stages.Stage.TheVariants.{Resting, Changing, Locking, Committing, Releasing}
 use Rattle.holding.specs.Outcome.{Outcome}
 use Rattle.holding.proofs.Endings.{outcome_as, ends_refused}
+use Rattle.holding.proofs.Passing.{passed_as, refused_as}
 use Rattle.protocol.specs.Calls.{judge_offer, judge_begin, judge_tick, time_of, timed_out}
 use Rattle.protocol.specs.Judging.{on_chain}
 use Rattle.protocol.specs.Messages.{Answer, taken, unless_bad}
@@ -36,7 +38,7 @@ offer_judged b s =
     (tested (has_place s b.view.candidates) CandidatesFull None _ _ refl)))
 
 -- what is not refused has a place
-pub offer_placed : (b : Box) (s : Slip) → None ≡ offer_refused b s → has_place s b.view.candidates ≡ true
+pub offer_placed : (b : Box) (s : Slip) → Ok tt ≡ passing (offer_refused b s) → has_place s b.view.candidates ≡ true
 offer_placed b s e = grind (arith, nat_tests)
 
 pub begin_judged : (b : Box) → judge_begin b ≡ unless_bad (begin_refused b) (Ok (stating b taken b.view 0))
@@ -79,8 +81,8 @@ module _ (b : Box) (k : ℕ) where
 
 -- refused by the first test that fails, or judged on
 module _ {X : Type 0} (b : Box) (f : ℕ) (out : List ℕ) (o : Option Refusal) (j rest : Result (Plan X) Refusal) (judged : j ≡ unless_bad o rest) where
-  pub is_refused : (why : Refusal) → Some why ≡ o → Outcome b b f f out out j (Err why)
-  is_refused why e = outcome_as b b f f out out (Err why) j (Err why) (sym (judged ∙ ap (λ x. unless_bad x rest) (sym e))) (ends_refused b b f f out out refl refl why refl)
+  pub is_refused : (why : Refusal) → Err why ≡ passing o → Outcome b b f f out out j (Err why)
+  is_refused why e = outcome_as b b f f out out (Err why) j (Err why) (sym (judged ∙ ap (λ x. unless_bad x rest) (sym (refused_as o why e)))) (ends_refused b b f f out out refl refl why refl)
 
-  pub is_judged : None ≡ o → rest ≡ j
-  is_judged e = sym (judged ∙ ap (λ x. unless_bad x rest) (sym e))
+  pub is_judged : Ok tt ≡ passing o → rest ≡ j
+  is_judged e = sym (judged ∙ ap (λ x. unless_bad x rest) (sym (passed_as o e)))

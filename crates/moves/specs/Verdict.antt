@@ -1,14 +1,17 @@
 -- What is said of a message that is well laid out: refused, by the first test that it fails, or not.
-use Rattle.std.specs.Prelude.{◌≡◌, ℕ, Bool, not, List, Some, None, Ok, Err, Option, Result, nat_le}
+use Rattle.std.specs.Prelude.{◌≡◌, ℕ, Bool, not, List, Some, None, Ok, Err, Option, Result, nat_le, nat_lt}
 use Rattle.base.specs.declared.pools.Pool.{Pool}
 use Rattle.base.specs.declared.refusals.Refusal.{Refusal}
 use Rattle.base.specs.declared.refusals.Refusal.TheVariants.{Stranger, PastHeight, LaterHeight, WrongRound, OutOfStage, OffChain, NotAdmitted, Contradiction, CandidatesFull, BooksEnd}
 use Rattle.base.specs.declared.slips.Mark.{Mark}
 use Rattle.base.specs.declared.slips.Slip.{Slip}
 use Rattle.base.specs.declared.stages.Stage.{Stage}
+use Rattle.holding.specs.declared.states.State.{State}
+use Rattle.judging.specs.Table.{stage_after}
 use Rattle.message.specs.Contents.{Sent}
+use Rattle.message.specs.Encoding.{kind_in}
 use Rattle.moves.specs.Refusing.{firstly}
-use Rattle.protocol.specs.Judging.{height_in, familiar, checks_of, bad_seal, round_taken, stage_takes, slip_in, on_chain, of_slip, contradicts, placed, goes_on}
+use Rattle.protocol.specs.Judging.{height_in, round_in, familiar, checks_of, bad_seal, round_taken, stage_takes, slip_in, on_chain, of_slip, contradicts, placed, goes_on}
 use Rattle.protocol.specs.State.{View, Box}
 
 -- refused; else what is said next
@@ -53,3 +56,7 @@ judged_as (Err why) = Some why
 abbrev pub Leads : Result Stage Refusal → Stage → Type 0
 Leads (Ok stage) to = stage ≡ to
 Leads (Err why) to = Unit {0}
+
+-- the stage that a message leads a replica to, whether or not it is taken
+abbrev pub stage_led_to : State → Sent (List ℕ) → Stage
+stage_led_to state s = stage_after state.stage (kind_in s.content) (nat_lt state.round.0 (round_in s.head))

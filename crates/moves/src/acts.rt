@@ -1,6 +1,6 @@
 // What a replica does: states a round, enters releasing, takes a lock, a decide, a release.
-ghost use Rattle.holding.specs.Outcome.{Outcome};
-ghost use Rattle.holding.specs.Views.{box_of, view_of};
+ghost use Rattle.holding.specs.Outcome.{Does};
+ghost use Rattle.holding.specs.Views.{view_of};
 ghost use Rattle.protocol.specs.Answering.{answered};
 ghost use Rattle.protocol.specs.Calls.{resending};
 ghost use Rattle.protocol.specs.Messages.{taken};
@@ -9,7 +9,7 @@ ghost use Rattle.std.specs.Prelude.{Ok};
 
 use base::counters::Round;
 use base::refusals::Refusal;
-use holding::cores::Core;
+use holding::cores::{Boxed, Core};
 use holding::states::State;
 use message::shapes::Head;
 use outbox::drafts::Fill;
@@ -26,7 +26,7 @@ pub(crate) fn state_round<S: Sealer, R: Rulebook>(
     out: &mut [u8],
     fill: &mut Fill,
 ) -> Result<Answer, Refusal>
-    ensures { Outcome (box_of S.Sealer.meaning R.Rulebook.admitted R.Rulebook.ranked core.old) (box_of S.Sealer.meaning R.Rulebook.admitted R.Rulebook.ranked core.new) fill.old.len fill.new.len out.old out.new (Ok (stating (box_of S.Sealer.meaning R.Rulebook.admitted R.Rulebook.ranked core.old) taken (view_of core.old.settings.pool next) round.0)) (answered result) }
+    ensures { Does ⟦<Core<S, R> as Boxed>⟧.boxed core.old core.new fill.old.len fill.new.len out.old out.new (λ b. Ok (stating b taken (view_of core.old.settings.pool next) round.0)) (answered result) }
 {
     let own = core.sealer.member();
     let page = next.candidates.candidate(&core.rules);
@@ -48,7 +48,7 @@ pub(crate) fn enter_releasing<S: Sealer, R: Rulebook>(
     out: &mut [u8],
     fill: &mut Fill,
 ) -> Result<Answer, Refusal>
-    ensures { Outcome (box_of S.Sealer.meaning R.Rulebook.admitted R.Rulebook.ranked core.old) (box_of S.Sealer.meaning R.Rulebook.admitted R.Rulebook.ranked core.new) fill.old.len fill.new.len out.old out.new (Ok (releasing (box_of S.Sealer.meaning R.Rulebook.admitted R.Rulebook.ranked core.old) taken (view_of core.old.settings.pool next.now))) (answered result) }
+    ensures { Does ⟦<Core<S, R> as Boxed>⟧.boxed core.old core.new fill.old.len fill.new.len out.old out.new (λ b. Ok (releasing b taken (view_of core.old.settings.pool next.now))) (answered result) }
 {
     if let Some(held) = &next.held {
         let head = Head {
@@ -64,8 +64,6 @@ pub(crate) fn enter_releasing<S: Sealer, R: Rulebook>(
             &held.slip,
             held.as_slice(),
         )?;
-        core.state = next.released();
-        return Ok(Answer::Taken);
     }
     core.state = next.released();
     Ok(Answer::Taken)
@@ -77,7 +75,7 @@ pub(crate) fn resend<S: Sealer, R: Rulebook>(
     out: &mut [u8],
     fill: &mut Fill,
 ) -> Result<Answer, Refusal>
-    ensures { Outcome (box_of S.Sealer.meaning R.Rulebook.admitted R.Rulebook.ranked core.old) (box_of S.Sealer.meaning R.Rulebook.admitted R.Rulebook.ranked core.new) fill.old.len fill.new.len out.old out.new (Ok (resending (box_of S.Sealer.meaning R.Rulebook.admitted R.Rulebook.ranked core.old))) (answered result) }
+    ensures { Does ⟦<Core<S, R> as Boxed>⟧.boxed core.old core.new fill.old.len fill.new.len out.old out.new (λ b. Ok (resending b)) (answered result) }
 {
     let own = core.sealer.member();
     if let Some(latest) = core.state.latest_of(core.settings.pool, own) {
@@ -87,8 +85,6 @@ pub(crate) fn resend<S: Sealer, R: Rulebook>(
             round: latest.round,
         };
         let _ = send_change(&mut core.sealer, out, fill, head, &latest.page)?;
-        core.state.ticks = 0;
-        return Ok(Answer::Taken);
     }
     core.state.ticks = 0;
     Ok(Answer::Taken)

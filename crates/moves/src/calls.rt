@@ -1,8 +1,8 @@
 // Offer, begin and tick.
 ghost use Rattle.std.specs.Prelude.{◌≡◌, ◌+◌, [], nat_lt};
-ghost use Rattle.holding.specs.Outcome.{Outcome};
-ghost use Rattle.holding.specs.Views.{box_of};
-ghost use Rattle.moves.specs.Refusing.{is_member, offer_refused, begin_refused, tick_refused};
+ghost use Rattle.base.specs.Refusals.{passing};
+ghost use Rattle.holding.specs.Outcome.{Does, DoesAlone};
+ghost use Rattle.moves.specs.Refusing.{offer_refused, begin_refused, tick_refused};
 ghost use Rattle.protocol.specs.Answering.{answered};
 ghost use Rattle.protocol.specs.Calls.{judge_offer, judge_begin, judge_tick, timed_out};
 
@@ -11,63 +11,54 @@ use base::counters::{LAST_ROUND, Round};
 use base::refusals::Refusal;
 use base::slips::Slip;
 use base::stages::Stage;
-use holding::cores::Core;
+use holding::cores::{Boxed, Core};
+use holding::times::is_timely;
 use judging::contents::on_chain;
 use outbox::drafts::Fill;
 use protocol::answers::Answer;
 use rules::rulebooks::Rulebook;
 use seal::sealers::Sealer;
 
-// Whether the sealer's number is one of the pool's.
-pub(crate) fn is_member<S: Sealer, R: Rulebook>(core: &Core<S, R>) -> bool
-    ensures { result ≡ is_member (box_of S.Sealer.meaning R.Rulebook.admitted R.Rulebook.ranked core.now) }
-{
-    core.settings.pool.has(core.sealer.member())
-}
-
-// The first refusal that an offer meets.
-fn offer_refused<S: Sealer, R: Rulebook>(core: &Core<S, R>, slip: &Slip) -> Option<Refusal>
-    ensures { result ≡ offer_refused (box_of S.Sealer.meaning R.Rulebook.admitted R.Rulebook.ranked core.now) slip.now }
+// Whether an offer is taken, by its tests in their order.
+fn judge_offer<S: Sealer, R: Rulebook>(core: &Core<S, R>, slip: &Slip) -> Result<(), Refusal>
+    ensures { result ≡ passing (offer_refused (⟦<Core<S, R> as Boxed>⟧.boxed core.now) slip.now) }
 {
     let state = &core.state;
-    if !is_member(core) {
-        return Some(Refusal::Stranger);
+    if !core.is_member() {
+        return Err(Refusal::Stranger);
     }
     if !on_chain(&state.last, slip) {
-        return Some(Refusal::OffChain);
+        return Err(Refusal::OffChain);
     }
     if !core.rules.admits(state.height, slip) {
-        return Some(Refusal::NotAdmitted);
+        return Err(Refusal::NotAdmitted);
     }
-    if state.candidates.has_place(slip) {
-        None
-    } else {
-        Some(Refusal::CandidatesFull)
+    if !state.candidates.has_place(slip) {
+        return Err(Refusal::CandidatesFull);
     }
+    Ok(())
 }
 
 // Puts an admitted slip on the chain among the candidates.
 pub fn offer<S: Sealer, R: Rulebook>(core: &mut Core<S, R>, slip: &Slip) -> Result<Answer, Refusal>
-    ensures { Outcome (box_of S.Sealer.meaning R.Rulebook.admitted R.Rulebook.ranked core.old) (box_of S.Sealer.meaning R.Rulebook.admitted R.Rulebook.ranked core.new) 0 0 [] [] (judge_offer (box_of S.Sealer.meaning R.Rulebook.admitted R.Rulebook.ranked core.old) slip.now) (answered result) }
+    ensures { DoesAlone ⟦<Core<S, R> as Boxed>⟧.boxed core.old core.new (λ b. judge_offer b slip.now) (answered result) }
 {
-    if let Some(why) = offer_refused(core, slip) {
-        return Err(why);
-    }
+    judge_offer(core, slip)?;
     core.state.candidates.shelve(slip);
     Ok(Answer::Taken)
 }
 
-// The first refusal that a beginning meets.
-fn begin_refused<S: Sealer, R: Rulebook>(core: &Core<S, R>) -> Option<Refusal>
-    ensures { result ≡ begin_refused (box_of S.Sealer.meaning R.Rulebook.admitted R.Rulebook.ranked core.now) }
+// Whether a beginning is taken.
+fn judge_begin<S: Sealer, R: Rulebook>(core: &Core<S, R>) -> Result<(), Refusal>
+    ensures { result ≡ passing (begin_refused (⟦<Core<S, R> as Boxed>⟧.boxed core.now)) }
 {
-    if !is_member(core) {
-        return Some(Refusal::Stranger);
+    if !core.is_member() {
+        return Err(Refusal::Stranger);
     }
-    match core.state.stage {
-        Stage::Resting => None,
-        _ => Some(Refusal::OutOfStage),
+    if core.state.stage != Stage::Resting {
+        return Err(Refusal::OutOfStage);
     }
+    Ok(())
 }
 
 // In resting, states round 0.
@@ -76,27 +67,24 @@ pub fn begin<S: Sealer, R: Rulebook>(
     out: &mut [u8],
     fill: &mut Fill,
 ) -> Result<Answer, Refusal>
-    ensures { Outcome (box_of S.Sealer.meaning R.Rulebook.admitted R.Rulebook.ranked core.old) (box_of S.Sealer.meaning R.Rulebook.admitted R.Rulebook.ranked core.new) fill.old.len fill.new.len out.old out.new (judge_begin (box_of S.Sealer.meaning R.Rulebook.admitted R.Rulebook.ranked core.old)) (answered result) }
+    ensures { Does ⟦<Core<S, R> as Boxed>⟧.boxed core.old core.new fill.old.len fill.new.len out.old out.new judge_begin (answered result) }
 {
-    if let Some(why) = begin_refused(core) {
-        return Err(why);
-    }
+    judge_begin(core)?;
     let next = core.state;
     state_round(core, next, Round(0), out, fill)
 }
 
-// The first refusal that a tick meets.
-fn tick_refused<S: Sealer, R: Rulebook>(core: &Core<S, R>, ticks: u32) -> Option<Refusal>
-    ensures { result ≡ tick_refused (box_of S.Sealer.meaning R.Rulebook.admitted R.Rulebook.ranked core.now) ticks }
+// Whether a tick is taken.
+fn judge_tick<S: Sealer, R: Rulebook>(core: &Core<S, R>, ticks: u32) -> Result<(), Refusal>
+    ensures { result ≡ passing (tick_refused (⟦<Core<S, R> as Boxed>⟧.boxed core.now) ticks) }
 {
-    if !is_member(core) {
-        return Some(Refusal::Stranger);
+    if !core.is_member() {
+        return Err(Refusal::Stranger);
     }
-    if 1 <= ticks && ticks <= 60_000 {
-        None
-    } else {
-        Some(Refusal::Unlawful)
+    if !is_timely(ticks) {
+        return Err(Refusal::Unlawful);
     }
+    Ok(())
 }
 
 // What the stage does when its time has come.
@@ -105,7 +93,7 @@ fn time_out<S: Sealer, R: Rulebook>(
     out: &mut [u8],
     fill: &mut Fill,
 ) -> Result<Answer, Refusal>
-    ensures { Outcome (box_of S.Sealer.meaning R.Rulebook.admitted R.Rulebook.ranked core.old) (box_of S.Sealer.meaning R.Rulebook.admitted R.Rulebook.ranked core.new) fill.old.len fill.new.len out.old out.new (timed_out (box_of S.Sealer.meaning R.Rulebook.admitted R.Rulebook.ranked core.old) core.old.state.stage) (answered result) }
+    ensures { Does ⟦<Core<S, R> as Boxed>⟧.boxed core.old core.new fill.old.len fill.new.len out.old out.new (λ b. timed_out b core.old.state.stage) (answered result) }
 {
     let next = core.state;
     match next.stage {
@@ -139,11 +127,9 @@ pub fn tick<S: Sealer, R: Rulebook>(
     out: &mut [u8],
     fill: &mut Fill,
 ) -> Result<Answer, Refusal>
-    ensures { Outcome (box_of S.Sealer.meaning R.Rulebook.admitted R.Rulebook.ranked core.old) (box_of S.Sealer.meaning R.Rulebook.admitted R.Rulebook.ranked core.new) fill.old.len fill.new.len out.old out.new (judge_tick (box_of S.Sealer.meaning R.Rulebook.admitted R.Rulebook.ranked core.old) ticks) (answered result) }
+    ensures { Does ⟦<Core<S, R> as Boxed>⟧.boxed core.old core.new fill.old.len fill.new.len out.old out.new (λ b. judge_tick b ticks) (answered result) }
 {
-    if let Some(why) = tick_refused(core, ticks) {
-        return Err(why);
-    }
+    judge_tick(core, ticks)?;
     if core.state.stage == Stage::Resting {
         return Ok(Answer::Taken);
     }

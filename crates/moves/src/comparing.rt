@@ -1,11 +1,9 @@
 // Comparing locks. Nothing is moved.
 ghost use Rattle.std.specs.Prelude.{◌≡◌};
-ghost use Rattle.holding.specs.Views.{box_of};
 ghost use Rattle.moves.specs.Comparing.{compared, handed};
 
-use crate::calls::is_member;
 use base::refusals::Refusal;
-use holding::cores::Core;
+use holding::cores::{Boxed, Core};
 use message::locks::higher_lock;
 use message::parsing::parse_lock;
 use rules::rulebooks::Rulebook;
@@ -17,18 +15,18 @@ pub fn higher_of<'a, S: Sealer, R: Rulebook>(
     core: &'a Core<S, R>,
     received: &'a [u8],
 ) -> Result<&'a [u8], Refusal>
-    ensures { handed result ≡ compared (box_of S.Sealer.meaning R.Rulebook.admitted R.Rulebook.ranked core.now) received.now }
+    ensures { handed result ≡ compared (⟦<Core<S, R> as Boxed>⟧.boxed core.now) received.now }
 {
-    if !is_member(core) {
+    if !core.is_member() {
         return Err(Refusal::Stranger);
     }
     let pool = core.settings.pool;
     let len = S::seal_length();
     match &core.state.held {
         Some(held) => higher_lock(held.as_slice(), received, pool, len),
-        None => match parse_lock(received, pool, len) {
-            Some(_) => Ok(received),
-            None => Err(Refusal::Misshapen),
-        },
+        None => {
+            parse_lock(received, pool, len).ok_or(Refusal::Misshapen)?;
+            Ok(received)
+        }
     }
 }

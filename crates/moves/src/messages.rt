@@ -1,23 +1,18 @@
 // Taking a message: read, judged in the one order of refusals, then acted on by its kind.
-ghost use Rattle.std.specs.Prelude.{◌≡◌, Some, None, Ok, nat_lt};
-ghost use Rattle.holding.specs.Outcome.{Outcome};
-ghost use Rattle.holding.specs.Views.{box_of};
-ghost use Rattle.judging.specs.Table.{stage_after};
+ghost use Rattle.std.specs.Prelude.{◌≡◌, Some, None, Ok};
+ghost use Rattle.holding.specs.Outcome.{Does};
 ghost use Rattle.judging.specs.Views.{sent_of};
-ghost use Rattle.message.specs.Encoding.{kind_in};
 ghost use Rattle.message.specs.RoundTrip.{fields};
-ghost use Rattle.moves.specs.Verdict.{verdict};
+ghost use Rattle.moves.specs.Verdict.{stage_led_to, verdict};
 ghost use Rattle.protocol.specs.Answering.{answered};
-ghost use Rattle.protocol.specs.Judging.{round_in};
 ghost use Rattle.protocol.specs.Messages.{judge_message, plan_of};
 
-use crate::calls::is_member;
 use crate::judges::judge;
 use crate::taking::{on_change, on_decide, on_lock, on_release, on_select};
 use base::refusals::Refusal;
 use base::seals::Seal;
 use base::stages::Stage;
-use holding::cores::Core;
+use holding::cores::{Boxed, Core};
 use message::parsing::parse;
 use message::shapes::{Holds, Message};
 use outbox::drafts::Fill;
@@ -35,25 +30,21 @@ fn act<S: Sealer, R: Rulebook>(
     fill: &mut Fill,
 ) -> Result<Answer, Refusal>
     requires read { fields core.old.settings.pool S.Checker.seal_long message.now ≡ Some (sent_of m.now) }
-    requires passed { verdict (box_of S.Sealer.meaning R.Rulebook.admitted R.Rulebook.ranked core.old) (sent_of m.now) ≡ None }
-    requires leads { stage ≡ stage_after core.old.state.stage (kind_in (sent_of m.now).content) (nat_lt core.old.state.round.0 (round_in (sent_of m.now).head)) }
-    ensures { Outcome (box_of S.Sealer.meaning R.Rulebook.admitted R.Rulebook.ranked core.old) (box_of S.Sealer.meaning R.Rulebook.admitted R.Rulebook.ranked core.new) fill.old.len fill.new.len out.old out.new (Ok (plan_of (box_of S.Sealer.meaning R.Rulebook.admitted R.Rulebook.ranked core.old) message.now (sent_of m.now).head (sent_of m.now).content)) (answered result) }
+    requires passed { verdict (⟦<Core<S, R> as Boxed>⟧.boxed core.old) (sent_of m.now) ≡ None }
+    requires leads { stage ≡ stage_led_to core.old.state (sent_of m.now) }
+    ensures { Does ⟦<Core<S, R> as Boxed>⟧.boxed core.old core.new fill.old.len fill.new.len out.old out.new (λ b. Ok (plan_of b message.now (sent_of m.now).head (sent_of m.now).content)) (answered result) }
 {
     match &m.holds {
         Holds::Change { page, rchg, cand } => {
-            let Some(rchg) = Seal::new(rchg.bytes) else {
-                return Err(Refusal::Misshapen);
-            };
-            let Some(cand) = Seal::new(cand.bytes) else {
-                return Err(Refusal::Misshapen);
-            };
+            let rchg = Seal::new(rchg.bytes).ok_or(Refusal::Misshapen)?;
+            let cand = Seal::new(cand.bytes).ok_or(Refusal::Misshapen)?;
             on_change(core, m.head, page, &rchg, &cand, out, fill)
         }
         Holds::Lock(c) => on_lock(core, message, m.head, &c.slip, stage, out, fill),
         Holds::Select(c) => on_select(core, m.head, &c.slip, out, fill),
         Holds::Commit { .. } => Ok(Answer::Taken),
-        Holds::Decide(c) => on_decide(core, &c.slip, out, fill),
-        Holds::Release { part, inner, .. } => on_release(core, part.bytes, inner, out, fill),
+        Holds::Decide(c) => on_decide(core, &c.slip),
+        Holds::Release { part, inner, .. } => on_release(core, part.bytes, inner),
     }
 }
 
@@ -64,18 +55,12 @@ pub fn take<S: Sealer, R: Rulebook>(
     out: &mut [u8],
     fill: &mut Fill,
 ) -> Result<Answer, Refusal>
-    ensures { Outcome (box_of S.Sealer.meaning R.Rulebook.admitted R.Rulebook.ranked core.old) (box_of S.Sealer.meaning R.Rulebook.admitted R.Rulebook.ranked core.new) fill.old.len fill.new.len out.old out.new (judge_message (box_of S.Sealer.meaning R.Rulebook.admitted R.Rulebook.ranked core.old) message.now) (answered result) }
+    ensures { Does ⟦<Core<S, R> as Boxed>⟧.boxed core.old core.new fill.old.len fill.new.len out.old out.new (λ b. judge_message b message.now) (answered result) }
 {
-    if !is_member(core) {
+    if !core.is_member() {
         return Err(Refusal::Stranger);
     }
-    let m = match parse(message, core.settings.pool, S::seal_length()) {
-        Ok(m) => m,
-        Err(why) => return Err(why),
-    };
-    let stage = match judge(core, &m) {
-        Ok(stage) => stage,
-        Err(why) => return Err(why),
-    };
+    let m = parse(message, core.settings.pool, S::seal_length())?;
+    let stage = judge(core, &m)?;
     act(core, message, &m, stage, out, fill)
 }

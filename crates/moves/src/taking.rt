@@ -3,8 +3,9 @@ ghost use Rattle.std.specs.Prelude.{◌≡◌, ℕ, ◌<◌, ◌≤◌, true, fa
 ghost use Rattle.base.specs.Pools.{members, last_height};
 ghost use Rattle.base.specs.Seals.{seal_bytes};
 ghost use Rattle.base.specs.declared.stages.Stage.TheVariants.{Committing};
-ghost use Rattle.holding.specs.Outcome.{Outcome};
-ghost use Rattle.holding.specs.Views.{box_of, view_of};
+ghost use Rattle.holding.specs.Outcome.{Does};
+ghost use Rattle.holding.specs.Placing.{place_for, place_for_page, repeats_in};
+ghost use Rattle.holding.specs.Views.{view_of};
 ghost use Rattle.judging.specs.Views.{locked_of};
 ghost use Rattle.message.specs.Contents.{Cert};
 ghost use Rattle.protocol.specs.Answering.{answered};
@@ -20,7 +21,7 @@ use base::refusals::Refusal;
 use base::seals::Seal;
 use base::slips::Slip;
 use base::stages::Stage;
-use holding::cores::Core;
+use holding::cores::{Boxed, Core};
 use holding::states::State;
 use message::shapes::{Head, LockMessage};
 use outbox::drafts::Fill;
@@ -40,8 +41,8 @@ pub(crate) fn on_change<S: Sealer, R: Rulebook>(
     out: &mut [u8],
     fill: &mut Fill,
 ) -> Result<Answer, Refusal>
-    requires { repeats (round_in head) page.now (latest_of (view_of core.old.settings.pool core.old.state) (sender_in head)) ≡ false → of_slip (λ s. has_place s (shelf_view core.old.state.candidates)) page.now ≡ true }
-    ensures { Outcome (box_of S.Sealer.meaning R.Rulebook.admitted R.Rulebook.ranked core.old) (box_of S.Sealer.meaning R.Rulebook.admitted R.Rulebook.ranked core.new) fill.old.len fill.new.len out.old out.new (Ok (on_change (box_of S.Sealer.meaning R.Rulebook.admitted R.Rulebook.ranked core.old) head page.now (seal_bytes rchg.now) (seal_bytes cand.now))) (answered result) }
+    requires { repeats_in (view_of core.old.settings.pool core.old.state) head page.now ≡ false → place_for_page core.old.state page.now ≡ true }
+    ensures { Does ⟦<Core<S, R> as Boxed>⟧.boxed core.old core.new fill.old.len fill.new.len out.old out.new (λ b. Ok (on_change b head page.now (seal_bytes rchg.now) (seal_bytes cand.now))) (answered result) }
 {
     if core.state.repeated(core.settings.pool, &head, page) {
         return Ok(Answer::Taken);
@@ -78,9 +79,9 @@ pub(crate) fn on_lock<S: Sealer, R: Rulebook>(
     fill: &mut Fill,
 ) -> Result<Answer, Refusal>
     requires short { length message.now ≤ 760 }
-    requires place { has_place slip.now (shelf_view core.old.state.candidates) ≡ true }
+    requires place { place_for core.old.state slip.now ≡ true }
     requires committing { stage ≡ Committing }
-    ensures { (c : Cert (List ℕ)) → c.slip ≡ slip.now → Outcome (box_of S.Sealer.meaning R.Rulebook.admitted R.Rulebook.ranked core.old) (box_of S.Sealer.meaning R.Rulebook.admitted R.Rulebook.ranked core.new) fill.old.len fill.new.len out.old out.new (Ok (on_lock (box_of S.Sealer.meaning R.Rulebook.admitted R.Rulebook.ranked core.old) message.now head c)) (answered result) }
+    ensures { (c : Cert (List ℕ)) → c.slip ≡ slip.now → Does ⟦<Core<S, R> as Boxed>⟧.boxed core.old core.new fill.old.len fill.new.len out.old out.new (λ b. Ok (on_lock b message.now head c)) (answered result) }
 {
     let commit = Head {
         sender: core.sealer.member(),
@@ -103,8 +104,8 @@ pub(crate) fn on_select<S: Sealer, R: Rulebook>(
     out: &mut [u8],
     fill: &mut Fill,
 ) -> Result<Answer, Refusal>
-    requires { has_place slip.now (shelf_view core.old.state.candidates) ≡ true }
-    ensures { (c : Cert (List ℕ)) → c.slip ≡ slip.now → Outcome (box_of S.Sealer.meaning R.Rulebook.admitted R.Rulebook.ranked core.old) (box_of S.Sealer.meaning R.Rulebook.admitted R.Rulebook.ranked core.new) fill.old.len fill.new.len out.old out.new (Ok (on_select (box_of S.Sealer.meaning R.Rulebook.admitted R.Rulebook.ranked core.old) head c)) (answered result) }
+    requires { place_for core.old.state slip.now ≡ true }
+    ensures { (c : Cert (List ℕ)) → c.slip ≡ slip.now → Does ⟦<Core<S, R> as Boxed>⟧.boxed core.old core.new fill.old.len fill.new.len out.old out.new (λ b. Ok (on_select b head c)) (answered result) }
 {
     let mut next = core.state;
     next.select(slip, head.round);
@@ -115,11 +116,9 @@ pub(crate) fn on_select<S: Sealer, R: Rulebook>(
 pub(crate) fn on_decide<S: Sealer, R: Rulebook>(
     core: &mut Core<S, R>,
     slip: &Slip,
-    out: &[u8],
-    fill: &Fill,
 ) -> Result<Answer, Refusal>
     requires { core.old.state.height.0 < last_height }
-    ensures { (c : Cert (List ℕ)) → c.slip ≡ slip.now → Outcome (box_of S.Sealer.meaning R.Rulebook.admitted R.Rulebook.ranked core.old) (box_of S.Sealer.meaning R.Rulebook.admitted R.Rulebook.ranked core.new) fill.now.len fill.now.len out.now out.now (Ok (on_decide (box_of S.Sealer.meaning R.Rulebook.admitted R.Rulebook.ranked core.old) c)) (answered result) }
+    ensures { (fill : ℕ) (out : List ℕ) (c : Cert (List ℕ)) → c.slip ≡ slip.now → Does ⟦<Core<S, R> as Boxed>⟧.boxed core.old core.new fill fill out out (λ b. Ok (on_decide b c)) (answered result) }
 {
     let height = core.state.height;
     core.state = State::resting(Height(height.0 + 1), slip.own);
@@ -134,12 +133,10 @@ pub(crate) fn on_release<S: Sealer, R: Rulebook>(
     core: &mut Core<S, R>,
     lock: &[u8],
     inner: &LockMessage<'_>,
-    out: &[u8],
-    fill: &Fill,
 ) -> Result<Answer, Refusal>
     requires short { length lock.now ≤ 760 }
-    requires place { outranks (view_of core.old.settings.pool core.old.state) (locked_of inner.now) ≡ true → has_place inner.now.certificate.slip (shelf_view core.old.state.candidates) ≡ true }
-    ensures { Outcome (box_of S.Sealer.meaning R.Rulebook.admitted R.Rulebook.ranked core.old) (box_of S.Sealer.meaning R.Rulebook.admitted R.Rulebook.ranked core.new) fill.now.len fill.now.len out.now out.now (Ok (on_release (box_of S.Sealer.meaning R.Rulebook.admitted R.Rulebook.ranked core.old) lock.now (locked_of inner.now))) (answered result) }
+    requires place { outranks (view_of core.old.settings.pool core.old.state) (locked_of inner.now) ≡ true → place_for core.old.state inner.now.certificate.slip ≡ true }
+    ensures { (fill : ℕ) (out : List ℕ) → Does ⟦<Core<S, R> as Boxed>⟧.boxed core.old core.new fill fill out out (λ b. Ok (on_release b lock.now (locked_of inner.now))) (answered result) }
 {
     let round = inner.head.round;
     if core.state.candidates.above_all(round) {

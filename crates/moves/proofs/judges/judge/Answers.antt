@@ -1,41 +1,27 @@
 use Rattle.holding.specs.Views.{box_of}
 use Rattle.judging.specs.Views.{sent_of}
-use Rattle.std.proofs.Common.{Some, None}
-use Rattle.moves.proofs.Verdicts.{seal_refused, slip_refused, state_decides}
+use Rattle.std.proofs.lemmas.Result.{err_from_is_err_and}
+use Rattle.std.proofs.Common.{Some, None, refl}
+use Rattle.holding.proofs.Passing.{refused_as, passed_as}
+use Rattle.moves.proofs.Verdicts.{slip_refused, state_decides}
 use Rattle.moves.proofs.judges.judge.Goals as goal
 
-pub returns-in-Some : goal.returns-in-Some
-returns-in-Some g c =
+pub returns-in_err-judge_slip-clause-refuses : goal.returns-in_err-judge_slip-clause-refuses
+returns-in_err-judge_slip-clause-refuses g c =
     let core = c.args.core.now
     in let b = box_of g.S.Sealer.meaning g.R.Rulebook.admitted g.R.Rulebook.ranked core
-    in record {
-      refuses = λ w. seal_refused b (sent_of c.args.m.now) (g.S.Checker.recognised core.sealer) (g.met.S.Sealer.knows core.sealer) (c.in_ok-stage.ensures.refuses w) c.in-Some.why (c.in-Some.ensures w);
-      leads = tt;
-    }
+    in let p = err_from_is_err_and c.from_residual-in_err-judge_slip.result c.from_residual-in_err-judge_slip.ensures.1
+    in rw (p.1, p.2) (λ w. slip_refused b (sent_of c.args.m.now) b.sealer.knows refl (c.in_ok-stage.ensures.refuses w) (passed_as _ (c.in_ok-judge_seals.ensures w)) c.slip_of.result c.slip_of.ensures c.in_err-judge_slip.field-0.0 (refused_as _ _ c.in_err-judge_slip.ensures))
 
-pub returns-in-Some-bad_slip : goal.returns-in-Some-bad_slip
-returns-in-Some-bad_slip g c =
+pub returns-in_err-judge_standing-clause-refuses : goal.returns-in_err-judge_standing-clause-refuses
+returns-in_err-judge_standing-clause-refuses g c =
     let core = c.args.core.now
     in let b = box_of g.S.Sealer.meaning g.R.Rulebook.admitted g.R.Rulebook.ranked core
-    in record {
-      refuses = λ w. slip_refused b (sent_of c.args.m.now) (g.S.Checker.recognised core.sealer) (g.met.S.Sealer.knows core.sealer) (c.in_ok-stage.ensures.refuses w) (c.in_default.ensures w) c.slip_of.result c.slip_of.ensures c.in-Some-bad_slip.why c.in-Some-bad_slip.ensures;
-      leads = tt;
-    }
+    in let p = err_from_is_err_and c.from_residual-in_err-judge_standing.result c.from_residual-in_err-judge_standing.ensures.1
+    in rw (p.1, p.2) (λ w. state_decides b (sent_of c.args.m.now) b.sealer.knows refl (c.in_ok-stage.ensures.refuses w) (passed_as _ (c.in_ok-judge_seals.ensures w)) c.slip_of.result c.slip_of.ensures c.member.result.0 (Some c.in_err-judge_standing.field-0.0) c.member.ensures (passed_as _ c.in_ok-judge_slip.ensures) (refused_as _ _ c.in_err-judge_standing.ensures))
 
-pub returns-in-Some-bad_standing : goal.returns-in-Some-bad_standing
-returns-in-Some-bad_standing g c =
+pub returns-clause-refuses : goal.returns-clause-refuses
+returns-clause-refuses g c =
     let core = c.args.core.now
     in let b = box_of g.S.Sealer.meaning g.R.Rulebook.admitted g.R.Rulebook.ranked core
-    in record {
-      refuses = λ w. state_decides b (sent_of c.args.m.now) (g.S.Checker.recognised core.sealer) (g.met.S.Sealer.knows core.sealer) (c.in_ok-stage.ensures.refuses w) (c.in_default.ensures w) c.slip_of.result c.slip_of.ensures c.member.result.0 (Some c.in-Some-bad_standing.why) c.member.ensures c.in_default-bad_slip.ensures c.in-Some-bad_standing.ensures;
-      leads = tt;
-    }
-
-pub returns : goal.returns
-returns g c =
-    let core = c.args.core.now
-    in let b = box_of g.S.Sealer.meaning g.R.Rulebook.admitted g.R.Rulebook.ranked core
-    in record {
-      refuses = λ w. state_decides b (sent_of c.args.m.now) (g.S.Checker.recognised core.sealer) (g.met.S.Sealer.knows core.sealer) (c.in_ok-stage.ensures.refuses w) (c.in_default.ensures w) c.slip_of.result c.slip_of.ensures c.member.result.0 None c.member.ensures c.in_default-bad_slip.ensures c.in_default-bad_standing.ensures;
-      leads = c.in_ok-stage.ensures.leads;
-    }
+    in λ w. state_decides b (sent_of c.args.m.now) b.sealer.knows refl (c.in_ok-stage.ensures.refuses w) (passed_as _ (c.in_ok-judge_seals.ensures w)) c.slip_of.result c.slip_of.ensures c.member.result.0 None c.member.ensures (passed_as _ c.in_ok-judge_slip.ensures) (passed_as _ c.in_ok-judge_standing.ensures)

@@ -1,5 +1,7 @@
 use Rattle.std.proofs.Common.{◌≡◌, Bool, true, false, not, ◌||◌, Ok, sym, refl, ap, ◌∙◌, subst, arith}
 use Rattle.base.specs.Pools.{last_height}
+use Rattle.base.specs.Seals.{seal_bytes}
+use Rattle.std.specs.Option.{option_map}
 use Rattle.std.proofs.lemmas.Bool.{ltb-true}
 use Rattle.std.proofs.lemmas.Bool.Decides.{nat_tests}
 use Rattle.holding.specs.Views.{box_of}
@@ -18,20 +20,6 @@ use Rattle.moves.proofs.messages.act.Goals as goal
 -- one of two, where the first is not
 other : (x y : Bool) → (x || y) ≡ true → x ≡ false → y ≡ true
 other x y either first = grind (arith, nat_tests)
-
-pub returns-in_default : goal.returns-in_default
-returns-in_default g c =
-    let b = box_of g.S.Sealer.meaning g.R.Rulebook.admitted g.R.Rulebook.ranked c.args.core.now
-    in let s = sent_of c.args.m.now
-    in let n = g.S.Checker.seal_long
-    in absurd (is_kept n _ g.met.S.Checker.sizes.0 g.met.S.Checker.sizes.1 (change_sealed c.args.core.now.settings.pool n c.args.message.now s g.met.S.Checker.sizes.1 c.type_inv.message c.requires.read c.in-Change.page _ _ (ap content_in c.in-Change.is)).0 c.in_default.ensures)
-
-pub returns-in_default-new : goal.returns-in_default-new
-returns-in_default-new g c =
-    let b = box_of g.S.Sealer.meaning g.R.Rulebook.admitted g.R.Rulebook.ranked c.args.core.now
-    in let s = sent_of c.args.m.now
-    in let n = g.S.Checker.seal_long
-    in absurd (is_kept n _ g.met.S.Checker.sizes.0 g.met.S.Checker.sizes.1 (change_sealed c.args.core.now.settings.pool n c.args.message.now s g.met.S.Checker.sizes.1 c.type_inv.message c.requires.read c.in-Change.page _ _ (ap content_in c.in-Change.is)).1 c.in_default-new.ensures)
 
 pub on_change-requires : goal.on_change-requires
 on_change-requires g c =
@@ -79,17 +67,39 @@ on_release-requires g c =
       place = λ e. other _ _ (subst (λ k. placed b.view s.head k ≡ true) (ap content_in c.in-Release.is) p.has_place_lem) (ap not e);
     }
 
-pub returns-in-Some-new : goal.returns-in-Some-new
-returns-in-Some-new g c =
+pub returns-in_err-rchg-in-Change : goal.returns-in_err-rchg-in-Change
+returns-in_err-rchg-in-Change g c =
     let b = box_of g.S.Sealer.meaning g.R.Rulebook.admitted g.R.Rulebook.ranked c.args.core.now
     in let s = sent_of c.args.m.now
     in let n = g.S.Checker.seal_long
-    in let l = (change_sealed c.args.core.now.settings.pool n c.args.message.now s g.met.S.Checker.sizes.1 c.type_inv.message c.requires.read c.in-Change.page _ _ (ap content_in c.in-Change.is))
-    in let x = kept_as n _ _ g.met.S.Checker.sizes.0 g.met.S.Checker.sizes.1 l.0 c.in-Some.ensures
-    in let y = kept_as n _ _ g.met.S.Checker.sizes.0 g.met.S.Checker.sizes.1 l.1 c.in-Some-new.ensures
+    in let l = change_sealed c.args.core.now.settings.pool n c.args.message.now s g.met.S.Checker.sizes.1 c.type_inv.message c.requires.read c.in-Change.page _ _ (ap content_in c.in-Change.is)
+    in absurd (is_kept n _ g.met.S.Checker.sizes.0 g.met.S.Checker.sizes.1 l.0 (ap (option_map seal_bytes) (sym c.in_err-rchg-in-Change.ensures.ok_part) ∙ c.new.ensures))
+
+pub returns-in_err-cand-in-Change : goal.returns-in_err-cand-in-Change
+returns-in_err-cand-in-Change g c =
+    let b = box_of g.S.Sealer.meaning g.R.Rulebook.admitted g.R.Rulebook.ranked c.args.core.now
+    in let s = sent_of c.args.m.now
+    in let n = g.S.Checker.seal_long
+    in let l = change_sealed c.args.core.now.settings.pool n c.args.message.now s g.met.S.Checker.sizes.1 c.type_inv.message c.requires.read c.in-Change.page _ _ (ap content_in c.in-Change.is)
+    in absurd (is_kept n _ g.met.S.Checker.sizes.0 g.met.S.Checker.sizes.1 l.1 (ap (option_map seal_bytes) (sym c.in_err-cand-in-Change.ensures.ok_part) ∙ c.new-in-Change.ensures))
+
+pub returns-in_ok-cand-in-Change : goal.returns-in_ok-cand-in-Change
+returns-in_ok-cand-in-Change g c =
+    let b = box_of g.S.Sealer.meaning g.R.Rulebook.admitted g.R.Rulebook.ranked c.args.core.now
+    in let s = sent_of c.args.m.now
+    in let n = g.S.Checker.seal_long
+    in let l = change_sealed c.args.core.now.settings.pool n c.args.message.now s g.met.S.Checker.sizes.1 c.type_inv.message c.requires.read c.in-Change.page _ _ (ap content_in c.in-Change.is)
+    in let x = kept_as n _ _ g.met.S.Checker.sizes.0 g.met.S.Checker.sizes.1 l.0 (ap (option_map seal_bytes) (sym c.in_ok-rchg-in-Change.ensures.ok_part) ∙ c.new.ensures)
+    in let y = kept_as n _ _ g.met.S.Checker.sizes.0 g.met.S.Checker.sizes.1 l.1 (ap (option_map seal_bytes) (sym c.in_ok-cand-in-Change.ensures.ok_part) ∙ c.new-in-Change.ensures)
     in outcome_as b _ _ _ _ _ _ _ _
     ((λ i. Ok (on_change b s.head c.in-Change.page (x i) (y i))) ∙ ap (λ k. Ok (plan_of b c.args.message.now s.head k)) (sym (ap content_in c.in-Change.is)))
     c.on_change.ensures
+
+pub returns-in-Release : goal.returns-in-Release
+returns-in-Release g c =
+    let b = box_of g.S.Sealer.meaning g.R.Rulebook.admitted g.R.Rulebook.ranked c.args.core.now
+    in let s = sent_of c.args.m.now
+    in outcome_as b _ _ _ _ _ _ _ _ (ap (λ k. Ok (plan_of b c.args.message.now s.head k)) (sym (ap content_in c.in-Release.is))) (c.on_release.ensures _ _)
 
 pub returns-in-Lock : goal.returns-in-Lock
 returns-in-Lock g c =
@@ -117,4 +127,4 @@ returns-in-Decide g c =
     let b = box_of g.S.Sealer.meaning g.R.Rulebook.admitted g.R.Rulebook.ranked c.args.core.now
     in let s = sent_of c.args.m.now
     in let n = g.S.Checker.seal_long
-    in outcome_as b _ _ _ _ _ _ _ _ (ap (λ k. Ok (plan_of b c.args.message.now s.head k)) (sym (ap content_in c.in-Decide.is))) (c.on_decide.ensures (cert_of c.in-Decide.c) refl)
+    in outcome_as b _ _ _ _ _ _ _ _ (ap (λ k. Ok (plan_of b c.args.message.now s.head k)) (sym (ap content_in c.in-Decide.is))) (c.on_decide.ensures _ _ (cert_of c.in-Decide.c) refl)

@@ -6,7 +6,7 @@ use Rattle.moves.proofs.ByKind.{relocked}
 use Rattle.moves.proofs.taking.on_release.Goals as goal
 
 pub returns-then-above_all : goal.returns-then-above_all
-returns-then-above_all g c =
+returns-then-above_all g c fill out =
     let b = box_of g.S.Sealer.meaning g.R.Rulebook.admitted g.R.Rulebook.ranked c.args.core.now
     in let above = c.if-above_all.ensures
     in relocked b _ _ _ _ _ c.args.lock.now (locked_of c.args.inner.now) refl refl above
