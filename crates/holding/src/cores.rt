@@ -13,6 +13,7 @@ use crate::settings::Settings;
 use crate::states::State;
 use base::refusals::Refusal;
 use judging::sealing::first_bad_seal;
+use message::parsing::Format;
 use message::shapes::Message;
 use rules::rulebooks::Rulebook;
 use seal::sealers::Sealer;
@@ -51,13 +52,20 @@ impl<S: Sealer, R: Rulebook> Core<S, R> {
         self.sealer.member() == self.settings.pool.leader(state.height, state.round)
     }
 
+    // How messages of its pool read.
+    pub fn format(&self) -> Format
+        ensures { result ≡ record { pool = self.now.settings.pool; seal_len = S.Checker.seal_long } }
+    {
+        Format {
+            pool: self.settings.pool,
+            seal_len: S::seal_length(),
+        }
+    }
+
     // Whether all seals of a message are recognised: refused by the first that is not.
     pub fn judge_seals(&self, m: &Message<'_>) -> Result<(), Refusal>
         ensures { Whole m.now → result ≡ passing (bad_seal (⟦<Self as Boxed>⟧.boxed self.now).sealer.knows (checks_of (sent_of m.now).head (sent_of m.now).content)) }
     {
-        match first_bad_seal(&self.sealer, m) {
-            Some(why) => Err(why),
-            None => Ok(()),
-        }
+        first_bad_seal(&self.sealer, m)
     }
 }

@@ -14,7 +14,6 @@ use base::counters::Member;
 use base::refusals::Refusal;
 use base::slips::Slip;
 use base::statements::{Statement, Word};
-use message::parsing::body;
 use message::readers::{Part, Reader};
 use message::shapes::{Certificate, Head, Holds, LockMessage, Message};
 use seal::sealers::Checker;
@@ -63,19 +62,16 @@ impl<C: Checker> Seals<'_, C> {
     }
 
     // Refused at the first of the quorum's seals that is not recognised.
-    fn votes(&self, statement: &Statement, mut votes: Reader<'_>) -> Result<(), Refusal>
+    fn votes(&self, statement: &Statement, votes: Reader<'_>) -> Result<(), Refusal>
         ensures { whole (place_of votes.entry) ≡ true → length (left (place_of votes.entry)) ≤ 7 → result ≡ passing (bad_seal (C.Checker.recognised self.now.checker.now) (vote_checks 2 self.now.inside statement.now (votes_at (place_of votes.entry)))) }
     {
-        // Kept: a reader of bodies is no iterator, so the place is counted beside it.
-        let mut place = 2u8;
-        while let Some(vote) = body(&mut votes) {
+        for (vote, place) in votes.zip(2..=u8::MAX) {
             if !self.stands(vote.member, statement, vote.part) {
                 return Err(Refusal::BadSeal {
                     place,
                     inside: self.inside,
                 });
             }
-            place = place.saturating_add(1);
         }
         Ok(())
     }

@@ -4,8 +4,6 @@ ghost use Rattle.moves.specs.Comparing.{compared, handed};
 
 use base::refusals::Refusal;
 use holding::cores::{Boxed, Core};
-use message::locks::higher_lock;
-use message::parsing::parse_lock;
 use rules::rulebooks::Rulebook;
 use seal::sealers::Sealer;
 
@@ -20,12 +18,13 @@ pub fn higher_of<'a, S: Sealer, R: Rulebook>(
     if !core.is_member() {
         return Err(Refusal::Stranger);
     }
-    let pool = core.settings.pool;
-    let len = S::seal_length();
+    let format = core.format();
     match &core.state.held {
-        Some(held) => higher_lock(held.as_slice(), received, pool, len),
+        Some(held) => format.higher_lock(held.as_slice(), received),
         None => {
-            parse_lock(received, pool, len).ok_or(Refusal::Misshapen)?;
+            format
+                .parse_lock(received)
+                .ok_or(Refusal::Misshapen)?;
             Ok(received)
         }
     }

@@ -13,7 +13,6 @@ use base::refusals::Refusal;
 use base::seals::Seal;
 use base::stages::Stage;
 use holding::cores::{Boxed, Core};
-use message::parsing::parse;
 use message::shapes::{Holds, Message};
 use outbox::drafts::Fill;
 use protocol::answers::Answer;
@@ -60,7 +59,7 @@ pub fn take<S: Sealer, R: Rulebook>(
     if !core.is_member() {
         return Err(Refusal::Stranger);
     }
-    let m = parse(message, core.settings.pool, S::seal_length())?;
+    let m = core.format().parse(message)?;
     let stage = judge(core, &m)?;
     act(core, message, &m, stage, out, fill)
 }
