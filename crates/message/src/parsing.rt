@@ -222,15 +222,11 @@ impl Format {
     fn all_votes(self, mut reader: Reader<'_>, sort: Sort) -> bool
         ensures { result ≡ (whole (place_of reader.entry) && rising (sort_number sort) self.seal_len 0 (left (place_of reader.entry))) }
     {
-        let mut low = 0;
-        // Kept: what a `for` over `&mut reader` leaves of the reader is not known after it, and `finished` asks it
-        while let Some(found) = body(&mut reader) {
-            if !self.is_vote(&found, sort, low) {
-                return false;
-            }
-            low = found.member.0 as usize + 1;
-        }
-        reader.finished()
+        let low = reader.try_fold(0, |low, found| {
+            self.is_vote(&found, sort, low)
+                .then_some(found.member.0 as usize + 1)
+        });
+        low.is_some() && reader.finished()
     }
 
     // Whether a body is a seal of that sort, of a member not below `low`.
