@@ -9,3 +9,4 @@ pub mod Holding
 pub mod Trips
 pub mod Sizing
 pub mod Going
+pub mod Rising

@@ -1,5 +1,5 @@
 // Reading a whole message.
-ghost use Rattle.std.specs.Prelude.{◌≡◌, ◌&&◌, false, length, IfSome, if◌then◌else◌, None, MatchOption, ◌==◌, nat_le};
+ghost use Rattle.std.specs.Prelude.{◌≡◌, ◌&&◌, false, length, IfSome, MatchOption, ◌==◌, nat_le};
 ghost use Rattle.std.specs.Option.{option_map, ok_or};
 ghost use Rattle.base.specs.Pools.{quorum};
 ghost use Rattle.base.specs.Sorts.{sort_number};
@@ -7,7 +7,7 @@ ghost use Rattle.base.specs.declared.refusals.Refusal.TheVariants.{Misshapen};
 ghost use Rattle.message.specs.Layout.{opens, left, whole};
 ghost use Rattle.message.specs.RoundTrip.{RoundTrip};
 ghost use Rattle.message.specs.Shapes.{take_slip, take_seal, take_page, rising, cert_of, commit_of, change_of, head_of, in_range, lock_of, take_lock, release_of, content_of, parsed};
-ghost use Rattle.message.specs.Steps.{Nexted, Took, OpenedAs};
+ghost use Rattle.message.specs.Steps.{Found, Nexted, Took, OpenedAs};
 ghost use Rattle.message.specs.Views.{entry_of, piece_of, place_of, cert_view, lock_view, inner_view, holds_view, shown};
 ghost use Rattle.message.specs.Wholes.{WholeCert, WholeLock, WholeOption, WholeAnswer};
 
@@ -102,9 +102,7 @@ impl Format {
     {
         let Opened { kind, head, bodies } = open(message).ok_or(Refusal::Misshapen)?;
         let kind = Kind::try_from(kind)?;
-        let holds = self
-            .holds(kind, bodies, head)
-            .ok_or(Refusal::Misshapen)?;
+        let holds = self.holds(kind, bodies, head).ok_or(Refusal::Misshapen)?;
         Ok(Message { head, holds })
     }
 
@@ -123,7 +121,7 @@ impl Format {
 
     // The bodies, by the kind of the message.
     fn holds<'a>(self, kind: Kind, bodies: Reader<'a>, head: Head) -> Option<Holds<'a>>
-        ensures reads { option_map holds_view result ≡ (if whole (place_of bodies.entry) then content_of kind self.pool self.seal_len head (left (place_of bodies.entry)) else None) }
+        ensures reads { Found (place_of bodies.entry) (content_of kind self.pool self.seal_len head) (option_map holds_view result) }
         ensures wholes { WholeOption result }
     {
         match kind {
@@ -144,7 +142,7 @@ impl Format {
 
     // Slip unless none, the sender's seals on the round change and on the candidate.
     fn change<'a>(self, mut reader: Reader<'a>, sender: Member) -> Option<Holds<'a>>
-        ensures reads { option_map holds_view result ≡ (if whole (place_of reader.entry) then change_of sender.0 self.seal_len (left (place_of reader.entry)) else None) }
+        ensures reads { Found (place_of reader.entry) (change_of sender.0 self.seal_len) (option_map holds_view result) }
         ensures wholes { WholeOption result }
     {
         let page = take_page(&mut reader)?;
@@ -157,7 +155,7 @@ impl Format {
 
     // Slip, the sender's seal on the commit.
     fn commit<'a>(self, mut reader: Reader<'a>, sender: Member) -> Option<Holds<'a>>
-        ensures reads { option_map holds_view result ≡ (if whole (place_of reader.entry) then commit_of sender.0 self.seal_len (left (place_of reader.entry)) else None) }
+        ensures reads { Found (place_of reader.entry) (commit_of sender.0 self.seal_len) (option_map holds_view result) }
         ensures wholes { WholeOption result }
     {
         let slip = take_slip(&mut reader)?;
@@ -167,7 +165,7 @@ impl Format {
 
     // A lock message of this height and any round, the sender's own seal.
     fn release<'a>(self, mut reader: Reader<'a>, head: Head) -> Option<Holds<'a>>
-        ensures reads { option_map holds_view result ≡ (if whole (place_of reader.entry) then release_of self.pool self.seal_len head (left (place_of reader.entry)) else None) }
+        ensures reads { Found (place_of reader.entry) (release_of self.pool self.seal_len head) (option_map holds_view result) }
         ensures wholes { WholeOption result }
     {
         let Inner { part, lock } = self.take_lock(&mut reader, head.height)?;
@@ -186,7 +184,7 @@ impl Format {
         sort: Sort,
         sender: Member,
     ) -> Option<Certificate<'a>>
-        ensures reads { option_map cert_view result ≡ (if whole (place_of reader.entry) then cert_of (sort_number sort) (quorum self.pool) sender.0 self.seal_len (left (place_of reader.entry)) else None) }
+        ensures reads { Found (place_of reader.entry) (cert_of (sort_number sort) (quorum self.pool) sender.0 self.seal_len) (option_map cert_view result) }
         ensures wholes { IfSome result WholeCert }
     {
         let slip = take_slip(&mut reader)?;
@@ -213,12 +211,7 @@ impl Format {
     }
 
     // The next body as a seal of that sort in that member's name.
-    fn take_seal<'a>(
-        self,
-        reader: &mut Reader<'a>,
-        sort: Sort,
-        member: Member,
-    ) -> Option<Part<'a>>
+    fn take_seal<'a>(self, reader: &mut Reader<'a>, sort: Sort, member: Member) -> Option<Part<'a>>
         ensures { Took (place_of reader.old) (place_of reader.new) (take_seal (sort_number sort) member.0 self.seal_len) (option_map piece_of result) }
     {
         let found = body(reader)?;
@@ -229,15 +222,11 @@ impl Format {
     fn all_votes(self, mut reader: Reader<'_>, sort: Sort) -> bool
         ensures { result ≡ (whole (place_of reader.entry) && rising (sort_number sort) self.seal_len 0 (left (place_of reader.entry))) }
     {
-        let mut low = 0;
-        // Kept: what a `for` over `&mut reader` leaves of the reader is not known after it, and `finished` asks it
-        while let Some(found) = body(&mut reader) {
-            if !self.is_vote(&found, sort, low) {
-                return false;
-            }
-            low = found.member.0 as usize + 1;
-        }
-        reader.finished()
+        let low = reader.try_fold(0, |low, found| {
+            self.is_vote(&found, sort, low)
+                .then_some(found.member.0 as usize + 1)
+        });
+        low.is_some() && reader.finished()
     }
 
     // Whether a body is a seal of that sort, of a member not below `low`.
