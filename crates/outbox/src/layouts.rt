@@ -78,6 +78,7 @@ pub fn lay_release(fill: &mut Fill, out: &mut [u8], head: Head, lock: &[u8], own
 }
 
 // A lock, select or decide: slip, the sender's own seal, at most 253 seals of a sort.
+// Kept: any kind and the byte of any sort, of which a Certified would take three pairs only.
 pub fn lay_certificate(
     fill: &mut Fill,
     out: &mut [u8],

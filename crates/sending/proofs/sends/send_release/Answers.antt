@@ -20,21 +20,21 @@ module _ (h : Head) (s : Slip) (l : List ℕ) (k m long : ℕ) (seal : k ≡ m) 
 any : Head → Slip → Locked (List ℕ)
 any h s = record { head = h; cert = record { slip = s; own = []; votes = [] } }
 
-pub returns-then-not-has_room : goal.returns-then-not-has_room
-returns-then-not-has_room g c lays =
+pub returns-then-not-has_room-clause-sent : goal.returns-then-not-has_room-clause-sent
+returns-then-not-has_room-clause-sent g c lays =
     is_short (g.S.Sealer.meaning c.args.sealer.now) _ _ _ _
     (size c.args.head c.args.slip.now c.args.lock.now c.seal_length.result g.S.Checker.seal_long _ c.seal_length.ensures (g.met.S.Sealer.long c.args.sealer.now))
     _ _ _ refl refl refl c.if-not-has_room.ensures
 
-pub returns-in_err-seal : goal.returns-in_err-seal
-returns-in_err-seal g c lays =
+pub returns-in_err-seal-clause-sent : goal.returns-in_err-seal-clause-sent
+returns-in_err-seal-clause-sent g c lays =
     let p = err_from_is_err_and c.from_residual.result c.from_residual.ensures.1
     in rw (p.1, p.2) (worn_first (g.S.Sealer.meaning c.args.sealer.now) _ _ _ _
     (size c.args.head c.args.slip.now c.args.lock.now c.seal_length.result g.S.Checker.seal_long _ c.seal_length.ensures (g.met.S.Sealer.long c.args.sealer.now))
     c.if-not-has_room.ensures (g.S.Sealer.meaning c.seal_statement.new.sealer) _ _ c.in_err-seal.field-0.0 _ _ refl (search rules) refl c.in_err-seal.ensures)
 
-pub returns : goal.returns
-returns g c lays =
+pub returns-clause-sent : goal.returns-clause-sent
+returns-clause-sent g c lays =
     let m = g.S.Sealer.meaning c.args.sealer.now
     in let m1 = g.S.Sealer.meaning c.seal_statement.new.sealer
     in let x = seal_bytes c.in_ok-seal.seal
