@@ -30,8 +30,8 @@ pub struct ChangeSeals {
 }
 
 // A change for a round with a page or none.
-// Kept: each of the four says room, begin, seal, lay, finish itself: a function that took the last step as a closure would need
-// five parameters more, and its contract the closure's references before and after.
+// Kept: each of the four begins its draft before the first seal, so that it is withdrawn where the sealer wears out; a function that
+// took the sealing and laying as a closure would need a contract over the sealer, the fill and the outbox that the closure is lent.
 pub fn send_change<S: Sealer>(
     sealer: &mut S,
     out: &mut [u8],

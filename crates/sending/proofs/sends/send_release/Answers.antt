@@ -3,7 +3,6 @@ use Rattle.std.proofs.lemmas.Result.{err_from_is_err_and}
 use Rattle.base.specs.Seals.{seal_bytes}
 use Rattle.protocol.specs.Plans.{draft_bytes, draft_size}
 use Rattle.base.specs.declared.slips.Slip.{Slip}
-use Rattle.message.specs.Contents.{Locked}
 use Rattle.message.specs.declared.shapes.Head.{Head}
 use Rattle.sending.specs.Drafts.{release_for}
 use Rattle.sending.proofs.Sent.{is_short, worn_first, goes_one, release_fills, release_size}
@@ -15,10 +14,6 @@ module _ (h : Head) (s : Slip) (l : List ℕ) (k m long : ℕ) (seal : k ≡ m) 
 
   fills : (x : List ℕ) → length x ≡ long → length (draft_bytes (release_for h s l) (x ∷ [])) ≡ 20 + length l + k
   fills x ex = let e = release_fills h s l long x ex in omega arith
-
--- the writer does not look at what the lock says
-any : Head → Slip → Locked (List ℕ)
-any h s = record { head = h; cert = record { slip = s; own = []; votes = [] } }
 
 pub returns-then-not-has_room-clause-sent : goal.returns-then-not-has_room-clause-sent
 returns-then-not-has_room-clause-sent g c lays =
@@ -42,4 +37,4 @@ returns-clause-sent g c lays =
     (size c.args.head c.args.slip.now c.args.lock.now c.seal_length.result g.S.Checker.seal_long _ c.seal_length.ensures (g.met.S.Sealer.long c.args.sealer.now))
     c.if-not-has_room.ensures (x ∷ []) _ c.lay_release.new.fill.len _ _ c.begin-draft.ensures.now (search rules)
     (fills c.args.head c.args.slip.now c.args.lock.now c.seal_length.result g.S.Checker.seal_long m.long c.seal_length.ensures (g.met.S.Sealer.long c.args.sealer.now) x c.in_ok-seal.ensures.whole)
-    (c.lay_release.ensures (any c.args.head c.args.slip.now)) m1 c.says.result x (λ i. sym c.says.ensures i ∷ []) refl c.in_ok-seal.ensures
+    c.lay_release.ensures.laid m1 c.says.result x (λ i. sym c.says.ensures i ∷ []) refl c.in_ok-seal.ensures
