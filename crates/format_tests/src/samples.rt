@@ -1,4 +1,5 @@
 // The messages that the tests write, of a pool of four with seals of 8 bytes.
+use base::certified::Certified;
 use base::counters::{Height, Member, Round};
 use base::pools::Pool;
 use base::seals::{Seal, Vote};
@@ -7,9 +8,7 @@ use base::stages::Kind;
 use message::parsing::Format;
 use message::shapes::Head;
 use outbox::drafts::Fill;
-use outbox::writers::{
-    write_change, write_commit, write_decide, write_lock, write_release, write_select,
-};
+use outbox::writers::{write_certificate, write_change, write_commit, write_release};
 use std::process::Abort;
 use std::test::Fail;
 
@@ -68,11 +67,8 @@ pub fn lock_by(
     second: u8,
     third: u8,
 ) -> Result<usize, Fail> {
-    let mut fill = Fill { len: 0 };
     let votes = [vote_of(first)?, vote_of(second)?, vote_of(third)?];
-    let seal = seal_of(head.sender.0, b'A')?;
-    write_lock(out, &mut fill, head, &slip_with(own), &seal, &votes)?;
-    Ok(fill.len)
+    certified_by(out, Certified::Lock, head, own, &votes)
 }
 
 // A release of a lock of that height; gives back its length.
@@ -85,16 +81,25 @@ pub fn release_of(rt: &impl Abort, out: &mut [u8], head: Head, height: u32) -> R
     Ok(fill.len)
 }
 
-fn with_votes(out: &mut [u8], kind: Kind, head: Head) -> Result<usize, Fail> {
+// A lock, select or decide on a slip with these votes; gives back its length.
+fn certified_by(
+    out: &mut [u8],
+    certified: Certified,
+    head: Head,
+    own: u8,
+    votes: &[Vote],
+) -> Result<usize, Fail> {
     let mut fill = Fill { len: 0 };
-    let votes = [vote_of(0)?, vote_of(1)?, vote_of(3)?];
     let seal = seal_of(head.sender.0, b'A')?;
-    let slip = slip_with(0x22);
-    if kind == Kind::Select {
-        write_select(out, &mut fill, head, &slip, &seal, &votes)?;
-    } else {
-        write_decide(out, &mut fill, head, &slip, &seal, &votes)?;
-    }
+    write_certificate(
+        out,
+        &mut fill,
+        certified,
+        head,
+        &slip_with(own),
+        &seal,
+        votes,
+    )?;
     Ok(fill.len)
 }
 
@@ -111,12 +116,18 @@ fn by_sender(out: &mut [u8], kind: Kind, head: Head) -> Result<usize, Fail> {
     Ok(fill.len)
 }
 
+fn by_leader(out: &mut [u8], certified: Certified, head: Head) -> Result<usize, Fail> {
+    let votes = [vote_of(0)?, vote_of(1)?, vote_of(3)?];
+    certified_by(out, certified, head, 0x22, &votes)
+}
+
 // A message of that kind, well written; gives back its length.
 pub fn written(rt: &impl Abort, out: &mut [u8], kind: Kind, head: Head) -> Result<usize, Fail> {
     match kind {
         Kind::Change | Kind::Commit => by_sender(out, kind, head),
-        Kind::Lock => lock_by(out, head, 0x22, 0, 1, 3),
-        Kind::Select | Kind::Decide => with_votes(out, kind, head),
+        Kind::Lock => by_leader(out, Certified::Lock, head),
+        Kind::Select => by_leader(out, Certified::Select, head),
+        Kind::Decide => by_leader(out, Certified::Decide, head),
         Kind::Release => release_of(rt, out, head, head.height.0),
     }
 }

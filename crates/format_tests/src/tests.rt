@@ -1,5 +1,6 @@
 // What the writers write reads back, and what is not of the layout is refused.
 use crate::samples::*;
+use base::certified::Certified;
 use base::counters::Member;
 use base::pools::Pool;
 use base::seals::{Seal, Vote};
@@ -10,7 +11,7 @@ use message::parsing::Format;
 use message::readers::{Part, Reader};
 use message::shapes::{Certificate, Head, Holds};
 use outbox::drafts::{Draft, Fill};
-use outbox::writers::{write_change, write_commit, write_lock, write_release};
+use outbox::writers::{write_certificate, write_change, write_commit, write_release};
 use std::process::Abort;
 use std::test::Fail;
 
@@ -219,9 +220,10 @@ fn locks_of_other_counts(rt: HostRuntime) -> Result<(), Fail> {
         let mut out = [0u8; ROOM];
         let mut fill = Fill { len: 0 };
         assert!(rt; few <= 4);
-        write_lock(
+        write_certificate(
             &mut out,
             &mut fill,
+            Certified::Lock,
             head_at(2, 5, 3),
             &slip_with(0x22),
             &own,
@@ -283,9 +285,10 @@ fn lengths_of_ten(rt: HostRuntime) -> Result<(), Fail> {
     ];
     let mut lock = [0u8; 1024];
     let mut fill = Fill { len: 0 };
-    write_lock(
+    write_certificate(
         &mut lock,
         &mut fill,
+        Certified::Lock,
         head_at(8, 5, 3),
         &slip_with(0x22),
         &seal,
@@ -340,13 +343,13 @@ fn drafts(rt: HostRuntime) {
     let mut out = [0u8; 16];
     let mut fill = Fill { len: 5 };
     {
-        let mut draft = Draft::begin(&mut fill);
-        draft.add(&mut out, b"gone");
+        let draft = Draft::begin(&mut fill);
+        draft.fill.add(&mut out, b"gone");
     }
     assert_eq!(rt; fill.len, 5);
-    let mut draft = Draft::begin(&mut fill);
-    draft.add(&mut out, b"kept");
-    draft.add(&mut out, b"too long for it");
+    let draft = Draft::begin(&mut fill);
+    draft.fill.add(&mut out, b"kept");
+    draft.fill.add(&mut out, b"too long for it");
     draft.finish();
     assert_eq!(rt; fill.len, 9);
     assert!(rt; taken(&rt, &out, 10) == b"\0\0\0\0\0kept\0".as_slice());

@@ -27,6 +27,18 @@ module _ (lays : Bool) (bytes : List ℕ) (f need : ℕ) (out : List ℕ) (lay :
         filled = ended ∙ adds.moved fit ∙ (λ i. began i + length (same i));
       }
 
--- the same message, told otherwise
-pub appended_as : {lays : Bool} {bytes : List ℕ} {f f' : ℕ} {out out' : List ℕ} {r : Result (Unit {0}) Refusal} (bytes' : List ℕ) → bytes ≡ bytes' → Appended lays bytes f f' out out' r → Appended lays bytes' f f' out out' r
-appended_as {lays} {bytes} {f} {f'} {out} {out'} {r} bytes' same done = subst (λ b. Appended lays b f f' out out' r) same done
+-- what a call of `append` promises, at a message of that length
+pub outcome : (lays : Bool) (bytes : List ℕ) (f f' need : ℕ) (out out' : List ℕ) (r : Result (Unit {0}) Refusal) → lays ≡ true → need ≡ length bytes
+    → r ≡ cond (fits f need (length out)) (Ok tt) (Err OutboxShort) → (fits f need (length out) ≡ false → (out' ≡ out) × (f' ≡ f)) → (fits f need (length out) ≡ true → Adds f f' bytes out out')
+    → Appended lays bytes f f' out out' r
+outcome lays bytes f f' need out out' r lay long answer short laid = by_room (fits f need (length out)) refl
+  where
+    by_room : (b : Bool) → b ≡ fits f need (length out) → Appended lays bytes f f' out out' r
+    by_room true e =
+        let a : r ≡ Ok tt = answer ∙ ap (λ t. cond t (Ok tt) (Err OutboxShort)) (sym e)
+        in subst (λ x. Appended lays bytes f f' out out' x) (sym a) (all_written lays bytes f need out lay long f f' f' bytes out' refl e refl refl (laid (sym e)))
+    by_room false e =
+        let a : r ≡ Err OutboxShort = answer ∙ ap (λ t. cond t (Ok tt) (Err OutboxShort)) (sym e)
+        in let k = short (sym e)
+        in subst (λ x. Appended lays bytes f f' out out' x) (sym a)
+        (subst (λ x. Appended lays bytes f x out out' (Err OutboxShort)) (sym k.1) (subst (λ x. Appended lays bytes f f out x (Err OutboxShort)) (sym k.0) (too_short lays bytes f need out lay long e)))

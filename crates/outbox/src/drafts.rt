@@ -14,6 +14,7 @@ use base::writing::put;
 use message::shapes::Head;
 
 // How many bytes of an outbox are taken.
+// Kept: outbox and fill are two parameters everywhere, since a draft is a guard over the one-number fill alone.
 #[derive(Drop)]
 pub struct Fill {
     pub len: usize,

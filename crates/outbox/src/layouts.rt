@@ -1,9 +1,9 @@
 // Laying a message out after the fill, piece by piece. Where it fits there it stands, whole.
-ghost use Rattle.std.specs.Prelude.{◌≡◌, ℕ, ◌+◌, ◌*◌, ◌≤◌, true, List, [], length};
+ghost use Rattle.std.specs.Prelude.{◌≡◌, ℕ, ◌+◌, ◌*◌, ◌≤◌, true, List, [], ◌∷◌, length};
 ghost use Rattle.base.specs.Kinds.{kind_number};
 ghost use Rattle.base.specs.Seals.{seal_bytes};
 ghost use Rattle.message.specs.Contents.{Locked, change, commit, release};
-ghost use Rattle.message.specs.Encoding.{encoded, framed, cert_blocks, page_blocks, table, bodies};
+ghost use Rattle.message.specs.Encoding.{block, encoded, framed, cert_blocks, page_blocks, table, bodies};
 ghost use Rattle.outbox.specs.Appending.{Adds};
 ghost use Rattle.outbox.specs.Written.{sent, countable, cert_with, seals_length, slip_length, vote_blocks};
 
@@ -67,7 +67,8 @@ pub fn lay_commit(fill: &mut Fill, out: &mut [u8], head: Head, slip: &Slip, seal
 
 // A release: a whole lock message, whatever it says, and the sender's own seal.
 pub fn lay_release(fill: &mut Fill, out: &mut [u8], head: Head, lock: &[u8], own: &Seal)
-    ensures { (inner : Locked (List ℕ)) → Adds fill.old.len fill.new.len (encoded (sent head (release lock.now inner (seal_bytes own.now)))) out.old out.new }
+    ensures laid { Adds fill.old.len fill.new.len (framed 6 head (block 6 0 lock.now ∷ (block 5 head.sender.0 (seal_bytes own.now) ∷ []))) out.old out.new }
+    ensures told { (inner : Locked (List ℕ)) → Adds fill.old.len fill.new.len (encoded (sent head (release lock.now inner (seal_bytes own.now)))) out.old out.new }
 {
     let own = own.as_slice();
     add_header(fill, out, Kind::Release, head, 2);
@@ -78,6 +79,7 @@ pub fn lay_release(fill: &mut Fill, out: &mut [u8], head: Head, lock: &[u8], own
 }
 
 // A lock, select or decide: slip, the sender's own seal, at most 253 seals of a sort.
+// Kept: any kind and the byte of any sort, of which a Certified would take three pairs only.
 pub fn lay_certificate(
     fill: &mut Fill,
     out: &mut [u8],

@@ -1,9 +1,11 @@
 // The writers: each appends one message of its kind after the fill, or refuses and changes nothing.
-ghost use Rattle.std.specs.Prelude.{◌≡◌, ℕ, true, List};
+ghost use Rattle.std.specs.Prelude.{◌≡◌, ℕ, true, false, cond, length, List};
 ghost use Rattle.base.specs.Seals.{seal_bytes};
 ghost use Rattle.message.specs.Contents.{Locked, change, commit, release};
 ghost use Rattle.message.specs.Encoding.{encoded};
 ghost use Rattle.outbox.specs.Appending.{fits, Appended};
+ghost use Rattle.base.specs.declared.refusals.Refusal.TheVariants.{OutboxShort};
+ghost use Rattle.outbox.specs.Laying.{LaysAt};
 ghost use Rattle.outbox.specs.Written.{sent, measurable, countable, cert_with, certifying};
 
 use crate::drafts::{Draft, Fill};
@@ -21,6 +23,27 @@ pub fn has_room(fill: &Fill, size: usize, need: usize) -> bool
     fill.len <= size && need <= size - fill.len
 }
 
+// Appends what is laid out after the fill, a message of that many bytes; refuses where there is no room for it.
+fn append<L: FnOnce(&mut Fill, &mut [u8])>(
+    out: &mut [u8],
+    fill: &mut Fill,
+    need: usize,
+    lay: L,
+) -> Result<(), Refusal>
+    requires { L.IsAlwaysCallable lay }
+    ensures answer { result ≡ cond (fits fill.old.len need (length out.old)) (Ok tt) (Err OutboxShort) }
+    ensures short { fits fill.old.len need (length out.old) ≡ false → (out.new ≡ out.old) × (fill.new.len ≡ fill.old.len) }
+    ensures laid { fits fill.old.len need (length out.old) ≡ true → LaysAt L.FnOnce lay fill.old.len fill.new.len out.old out.new }
+{
+    if !has_room(fill, out.len(), need) {
+        return Err(Refusal::OutboxShort);
+    }
+    let draft = Draft::begin(fill);
+    lay(draft.fill, out);
+    draft.finish();
+    Ok(())
+}
+
 // Appends a change: slip unless none, the sender's seals on the round change and on the candidate.
 pub fn write_change(
     out: &mut [u8],
@@ -33,13 +56,9 @@ pub fn write_change(
     ensures { Appended true (encoded (sent head (change page.now (seal_bytes rchg.now) (seal_bytes cand.now)))) fill.old.len fill.new.len out.old out.new result }
 {
     let need = 20 + slip_room(page) + rchg.as_slice().len() + cand.as_slice().len();
-    if !has_room(fill, out.len(), need) {
-        return Err(Refusal::OutboxShort);
-    }
-    let draft = Draft::begin(fill);
-    lay_change(draft.fill, out, head, page, rchg, cand);
-    draft.finish();
-    Ok(())
+    append(out, fill, need, |fill, out| {
+        lay_change(fill, out, head, page, rchg, cand)
+    })
 }
 
 // Appends a commit: slip, the sender's seal on it.
@@ -53,13 +72,9 @@ pub fn write_commit(
     ensures { Appended true (encoded (sent head (commit slip.now (seal_bytes seal.now)))) fill.old.len fill.new.len out.old out.new result }
 {
     let need = 20 + slip.size() + seal.as_slice().len();
-    if !has_room(fill, out.len(), need) {
-        return Err(Refusal::OutboxShort);
-    }
-    let draft = Draft::begin(fill);
-    lay_commit(draft.fill, out, head, slip, seal);
-    draft.finish();
-    Ok(())
+    append(out, fill, need, |fill, out| {
+        lay_commit(fill, out, head, slip, seal)
+    })
 }
 
 // Appends a release: a whole lock message, whatever it says, and the sender's own seal.
@@ -76,13 +91,9 @@ pub fn write_release(
         return Err(Refusal::Misshapen);
     }
     let need = 20 + lock.len() + own.as_slice().len();
-    if !has_room(fill, out.len(), need) {
-        return Err(Refusal::OutboxShort);
-    }
-    let draft = Draft::begin(fill);
-    lay_release(draft.fill, out, head, lock, own);
-    draft.finish();
-    Ok(())
+    append(out, fill, need, |fill, out| {
+        lay_release(fill, out, head, lock, own)
+    })
 }
 
 // Appends a lock, select or decide: slip, the sender's own seal, the quorum's seals of its sort.
@@ -101,21 +112,8 @@ pub fn write_certificate(
         return Err(Refusal::Misshapen);
     }
     let need = 20 + slip.size() + own.as_slice().len() + votes_room(votes);
-    if !has_room(fill, out.len(), need) {
-        return Err(Refusal::OutboxShort);
-    }
-    let sort = certified.sort().number();
-    let draft = Draft::begin(fill);
-    lay_certificate(
-        draft.fill,
-        out,
-        certified.kind(),
-        sort,
-        head,
-        slip,
-        own,
-        votes,
-    );
-    draft.finish();
-    Ok(())
+    let (kind, sort) = (certified.kind(), certified.sort().number());
+    append(out, fill, need, |fill, out| {
+        lay_certificate(fill, out, kind, sort, head, slip, own, votes)
+    })
 }

@@ -1,5 +1,6 @@
 // The wire format: one member writes, another reads.
 use anyhow::anyhow;
+use base::certified::Certified;
 use base::counters::{Height, Member, Round};
 use base::pools::Pool;
 use base::refusals::Refusal;
@@ -8,7 +9,7 @@ use base::slips::{Mark, Slip};
 use message::parsing::Format;
 use message::shapes::{Certificate, Head, Holds, Message};
 use outbox::drafts::Fill;
-use outbox::writers::{write_change, write_lock, write_release};
+use outbox::writers::{write_certificate, write_change, write_release};
 
 // The walk is through messages of a pool of four with seals of 8 bytes.
 const FORMAT: Format = Format {
@@ -192,9 +193,10 @@ fn a_lock(out: &mut [u8], round: u32, slip: &Slip) -> anyhow::Result<usize> {
             seal: stand_in(3, b'C')?,
         },
     ];
-    told(write_lock(
+    told(write_certificate(
         out,
         &mut fill,
+        Certified::Lock,
         head,
         slip,
         &stand_in(sender.0, b'L')?,

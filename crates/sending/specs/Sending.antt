@@ -4,7 +4,7 @@ use Rattle.base.specs.Seals.{seal_bytes}
 use Rattle.base.specs.Statements.{statement_bytes}
 use Rattle.base.specs.Writing.{wrote}
 use Rattle.base.specs.declared.refusals.Refusal.{Refusal}
-use Rattle.base.specs.declared.refusals.Refusal.TheVariants.{WornSealer, OutboxShort}
+use Rattle.base.specs.declared.refusals.Refusal.TheVariants.{Misshapen, WornSealer, OutboxShort}
 use Rattle.base.specs.declared.seals.Seal.{Seal}
 use Rattle.base.specs.declared.statements.Statement.{Statement}
 use Rattle.protocol.specs.Plans.{Draft, draft_bytes, draft_size}
@@ -57,6 +57,13 @@ pub record Worn (before after : Meaning) (d : Draft) (fill fill' : ℕ) (out out
   pub all_spent : after ≡ spent_by before.left before
   pub outbox_same : out' ≡ out
   pub fill_same : fill' ≡ fill
+
+-- the layout has no room for it: refused with 1, and nothing is changed
+pub record Unlaid (before after : Meaning) (fill fill' : ℕ) (out out' : List ℕ) (r : Result (List (List ℕ)) Refusal) : Type 0 where
+  pub misshapen : r ≡ Err Misshapen
+  pub no_seal_spent : after ≡ before
+  pub outbox_left : out' ≡ out
+  pub fill_left : fill' ≡ fill
 
 -- what became of a draft; an accepted one gives its seals
 abbrev pub Sending : Meaning → Meaning → Draft → ℕ → ℕ → List ℕ → List ℕ → Result (List (List ℕ)) Refusal → Type 0

@@ -1,12 +1,12 @@
 // The drafts that a replica and a leader's turn send. The draft stands over the fill while its statements are sealed; where
 // the sealer wears out it is withdrawn.
-ghost use Rattle.std.specs.Prelude.{◌≡◌, true, map};
+ghost use Rattle.std.specs.Prelude.{◌≡◌, true, false, map};
 ghost use Rattle.base.specs.Certified.{kind_of, sort_of, word_of};
 ghost use Rattle.protocol.specs.Messages.{commit_draft};
 ghost use Rattle.protocol.specs.Rounds.{change_draft};
 ghost use Rattle.outbox.specs.Written.{signed_by, countable, measurable};
 ghost use Rattle.sending.specs.Drafts.{release_for, cert_for};
-ghost use Rattle.sending.specs.Sending.{Sending, one_seal, two_seals};
+ghost use Rattle.sending.specs.Sending.{Sending, Unlaid, one_seal, two_seals};
 
 use base::certified::Certified;
 use base::refusals::Refusal;
@@ -30,6 +30,8 @@ pub struct ChangeSeals {
 }
 
 // A change for a round with a page or none.
+// Kept: each of the four begins its draft before the first seal, so that it is withdrawn where the sealer wears out; a function that
+// took the sealing and laying as a closure would need a contract over the sealer, the fill and the outbox that the closure is lent.
 pub fn send_change<S: Sealer>(
     sealer: &mut S,
     out: &mut [u8],
@@ -72,7 +74,7 @@ pub fn send_commit<S: Sealer>(
     Ok(seal)
 }
 
-// A release of a lock message on a slip. Its bytes have to be at most 65,535, as those of every lock message are.
+// A release of a lock message on a slip. More than 65,535 bytes are refused; no lock message has as many.
 pub fn send_release<S: Sealer>(
     sealer: &mut S,
     out: &mut [u8],
@@ -81,7 +83,8 @@ pub fn send_release<S: Sealer>(
     slip: &Slip,
     lock: &[u8],
 ) -> Result<Seal, Refusal>
-    ensures { measurable lock.now ≡ true → Sending (S.Sealer.meaning sealer.old) (S.Sealer.meaning sealer.new) (release_for head slip.now lock.now) fill.old.len fill.new.len out.old out.new (one_seal result) }
+    ensures sent { measurable lock.now ≡ true → Sending (S.Sealer.meaning sealer.old) (S.Sealer.meaning sealer.new) (release_for head slip.now lock.now) fill.old.len fill.new.len out.old out.new (one_seal result) }
+    ensures unlaid { measurable lock.now ≡ false → Unlaid (S.Sealer.meaning sealer.old) (S.Sealer.meaning sealer.new) fill.old.len fill.new.len out.old out.new (one_seal result) }
 {
     if lock.len() > 65_535 {
         return Err(Refusal::Misshapen);
@@ -97,7 +100,7 @@ pub fn send_release<S: Sealer>(
     Ok(seal)
 }
 
-// A lock, select or decide on a slip over at most 253 votes.
+// A lock, select or decide on a slip over the votes. More than 253 are refused.
 pub fn send_certificate<S: Sealer>(
     sealer: &mut S,
     out: &mut [u8],
@@ -107,8 +110,12 @@ pub fn send_certificate<S: Sealer>(
     slip: &Slip,
     votes: &[Vote],
 ) -> Result<Seal, Refusal>
-    ensures { countable votes.now ≡ true → Sending (S.Sealer.meaning sealer.old) (S.Sealer.meaning sealer.new) (cert_for head (kind_of certified) (sort_of certified) (word_of certified) slip.now (map signed_by votes.now)) fill.old.len fill.new.len out.old out.new (one_seal result) }
+    ensures sent { countable votes.now ≡ true → Sending (S.Sealer.meaning sealer.old) (S.Sealer.meaning sealer.new) (cert_for head (kind_of certified) (sort_of certified) (word_of certified) slip.now (map signed_by votes.now)) fill.old.len fill.new.len out.old out.new (one_seal result) }
+    ensures unlaid { countable votes.now ≡ false → Unlaid (S.Sealer.meaning sealer.old) (S.Sealer.meaning sealer.new) fill.old.len fill.new.len out.old out.new (one_seal result) }
 {
+    if votes.len() > 253 {
+        return Err(Refusal::Misshapen);
+    }
     let need = 20 + slip.size() + S::seal_length() + votes_room(votes);
     if !has_room(fill, out.len(), need) {
         return Err(Refusal::OutboxShort);
@@ -116,7 +123,16 @@ pub fn send_certificate<S: Sealer>(
     let draft = Draft::begin(fill);
     let own = seal_statement(sealer, &says(certified.word(), &head, Some(*slip)))?;
     let sort = certified.sort().number();
-    lay_certificate(draft.fill, out, certified.kind(), sort, head, slip, &own, votes);
+    lay_certificate(
+        draft.fill,
+        out,
+        certified.kind(),
+        sort,
+        head,
+        slip,
+        &own,
+        votes,
+    );
     draft.finish();
     Ok(own)
 }

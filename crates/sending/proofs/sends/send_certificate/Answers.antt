@@ -23,21 +23,21 @@ module _ (h : Head) (what : Certified) (s : Slip) (vs : List Vote) (n w : ℕ) (
   fills : (x : List ℕ) → length x ≡ long → length (draft_bytes (cert_for h (kind_of what) (sort_of what) (word_of what) s (map signed_by vs)) (x ∷ [])) ≡ 20 + n + k + w
   fills x ex = let e = cert_fills h (kind_of what) (sort_of what) (word_of what) s vs long x ex in omega arith
 
-pub returns-then-not-has_room : goal.returns-then-not-has_room
-returns-then-not-has_room g c few =
+pub returns-then-not-has_room-clause-sent : goal.returns-then-not-has_room-clause-sent
+returns-then-not-has_room-clause-sent g c few =
     is_short (g.S.Sealer.meaning c.args.sealer.now) _ _ _ _
     (size c.args.head c.args.certified c.args.slip.now c.args.votes.now c.size.result c.votes_room.result c.size.ensures.size (c.votes_room.ensures.room few) c.seal_length.result g.S.Checker.seal_long _ c.seal_length.ensures (g.met.S.Sealer.long c.args.sealer.now))
     _ _ _ refl refl refl c.if-not-has_room.ensures
 
-pub returns-in_err-own : goal.returns-in_err-own
-returns-in_err-own g c few =
+pub returns-in_err-own-clause-sent : goal.returns-in_err-own-clause-sent
+returns-in_err-own-clause-sent g c few =
     let p = err_from_is_err_and c.from_residual.result c.from_residual.ensures.1
     in rw (p.1, p.2) (worn_first (g.S.Sealer.meaning c.args.sealer.now) _ _ _ _
     (size c.args.head c.args.certified c.args.slip.now c.args.votes.now c.size.result c.votes_room.result c.size.ensures.size (c.votes_room.ensures.room few) c.seal_length.result g.S.Checker.seal_long _ c.seal_length.ensures (g.met.S.Sealer.long c.args.sealer.now))
     c.if-not-has_room.ensures (g.S.Sealer.meaning c.seal_statement.new.sealer) _ _ c.in_err-own.field-0.0 _ _ refl (search rules) refl c.in_err-own.ensures)
 
-pub returns : goal.returns
-returns g c few =
+pub returns-clause-sent : goal.returns-clause-sent
+returns-clause-sent g c few =
     let m = g.S.Sealer.meaning c.args.sealer.now
     in let m1 = g.S.Sealer.meaning c.seal_statement.new.sealer
     in let x = seal_bytes c.in_ok-own.own
