@@ -1,6 +1,6 @@
 -- Numbers as bytes: unsigned, the most significant byte first.
-use Rattle.std.specs.Prelude.{ℕ, ◌+◌, ◌*◌, ◌/◌, ◌%◌, ◌<◌, Bool, true, ◌&&◌, List, [], ◌∷◌, ◌==◌, slice_index}
-use Rattle.std.specs.List.{AllByRecursion}
+use Rattle.std.specs.Prelude.{ℕ, ◌+◌, ◌*◌, ◌/◌, ◌%◌, ◌<◌, Bool, List, [], ◌∷◌, ◌==◌, slice_index}
+use Rattle.std.specs.List.{AllByRecursion, list_all}
 
 -- the two bytes of n
 abbrev pub be2 : ℕ → List ℕ
@@ -20,8 +20,7 @@ four m i = slice_index m i * 16777216 + slice_index m (i + 1) * 65536 + slice_in
 
 -- each byte is 0
 abbrev pub all_zero : List ℕ → Bool
-all_zero [] = true
-all_zero (b ∷ bs) = b == 0 && all_zero bs
+all_zero bs = list_all (λ b. b == 0) bs
 
 -- every element is a byte
 abbrev pub Bytes : List ℕ → Type 0

@@ -67,7 +67,7 @@ impl<T: Copy, const N: usize> Bounded<T, N> {
         ensures fits { result ≡ nat_lt (length (items self.old)) N }
         ensures items { items self.new ≡ cond result (items self.old ++ value ∷ []) (items self.old) }
     {
-        if self.len == N {
+        if self.is_full() {
             return false;
         }
         self.slots[self.len] = value;

@@ -7,7 +7,7 @@ ghost use Rattle.std.specs.Ordering.{on};
 ghost use Rattle.std.specs.Cmp.Lexicographic.{pointwise};
 ghost use Rattle.std.proofs.Common.{rules};
 
-use crate::writing::{all_zero, four_at, put};
+use crate::writing::{all_zero, array_at, four_at, put};
 
 // The digest by which a page is known.
 #[derive(Clone, Copy, PartialEq, Eq, PartialOrd, Ord, Debug)]
@@ -28,9 +28,7 @@ impl Slip {
         ensures size { result ≡ length (slip_bytes self.now) }
         ensures is { result ≡ 72 }
     {
-        let parent: &[u8] = &self.parent.0;
-        let own: &[u8] = &self.own.0;
-        parent.len() + own.len() + 8
+        self.parent.0.len() + self.own.0.len() + 8
     }
 
     // Writes the 72 bytes from `at` on: parent mark, own mark, lots, maker; nothing where they do not fit.
@@ -58,21 +56,12 @@ impl Slip {
             return None;
         }
         Some(Slip {
-            parent: mark_at(bytes, 0),
-            own: mark_at(bytes, 32),
+            parent: Mark(array_at(bytes, 0)?),
+            own: Mark(array_at(bytes, 32)?),
             lots: four_at(bytes, 64),
             maker: four_at(bytes, 68),
         })
     }
-}
-
-fn mark_at(bytes: &[u8], at: usize) -> Mark
-    requires { at + 32 ≤ length bytes.now }
-    ensures { result.0 ≡ take 32 (drop at bytes.now) }
-{
-    let mut mark = [0u8; 32];
-    mark.copy_from_slice(&bytes[at..at + 32]);
-    Mark(mark)
 }
 
 // Whether two slips are one page.

@@ -4,7 +4,7 @@ use base::pools::Pool;
 use base::seals::{Seal, Vote};
 use base::slips::{Mark, Slip};
 use base::stages::Kind;
-use message::parsing::parse;
+use message::parsing::Format;
 use message::shapes::Head;
 use outbox::drafts::Fill;
 use outbox::writers::{
@@ -12,6 +12,11 @@ use outbox::writers::{
 };
 use std::process::Abort;
 use std::test::Fail;
+
+pub const FORMAT: Format = Format {
+    pool: Pool::Four,
+    seal_len: 8,
+};
 
 // How large the tests' outboxes are.
 pub const ROOM: usize = 256;
@@ -118,7 +123,7 @@ pub fn written(rt: &impl Abort, out: &mut [u8], kind: Kind, head: Head) -> Resul
 
 // Reading refuses with 1.
 pub fn misshapen(rt: &impl Abort, message: &[u8]) -> Result<(), Fail> {
-    match parse(message, Pool::Four, 8) {
+    match FORMAT.parse(message) {
         Ok(_) => Err(Fail::new("a misshapen message was read")),
         Err(refusal) => {
             assert_eq!(rt; refusal.number(), 1);

@@ -6,8 +6,7 @@ use base::seals::{Seal, Vote};
 use base::slips::Slip;
 use base::stages::Kind;
 use base::writing::put;
-use message::locks::higher_lock;
-use message::parsing::parse;
+use message::parsing::Format;
 use message::readers::{Part, Reader};
 use message::shapes::{Certificate, Head, Holds};
 use outbox::drafts::{Draft, Fill};
@@ -103,7 +102,7 @@ fn each_kind_reads_back(rt: HostRuntime) -> Result<(), Fail> {
     for kind in KINDS {
         let mut out = [0u8; ROOM];
         let n = written(&rt, &mut out, kind, head_at(2, 5, 3))?;
-        let m = parse(taken(&rt, &out, n), Pool::Four, 8)?;
+        let m = FORMAT.parse(taken(&rt, &out, n))?;
         is_head(&rt, m.head, 2, 5, 3);
         is_content(&rt, kind, m.holds)?;
         for short in 0..n {
@@ -173,7 +172,7 @@ fn limits_of_the_head(rt: HostRuntime) -> Result<(), Fail> {
     ] {
         let mut out = [0u8; ROOM];
         let n = written(&rt, &mut out, Kind::Change, good)?;
-        let m = parse(taken(&rt, &out, n), Pool::Four, 8)?;
+        let m = FORMAT.parse(taken(&rt, &out, n))?;
         is_head(&rt, m.head, good.sender.0, good.height.0, good.round.0);
     }
     for bad in [
@@ -252,7 +251,7 @@ fn lengths_of_four(rt: HostRuntime) -> Result<(), Fail> {
         &seal_of(2, b'B')?,
     )?;
     assert_eq!(rt; fill.len, 36);
-    match parse(taken(&rt, &out, 36), Pool::Four, 8)?.holds {
+    match FORMAT.parse(taken(&rt, &out, 36))?.holds {
         Holds::Change { page, rchg, cand } => {
             assert!(rt; page.is_none());
             is_part(&rt, rchg, 20, 2, b'A')?;
@@ -303,7 +302,8 @@ fn lengths_of_ten(rt: HostRuntime) -> Result<(), Fail> {
         &seal,
     )?;
     assert_eq!(rt; end.len, 860);
-    let m = parse(taken(&rt, &out, 860), Pool::Ten, 80)?;
+    let ten = Format { pool: Pool::Ten, seal_len: 80 };
+    let m = ten.parse(taken(&rt, &out, 860))?;
     is_head(&rt, m.head, 2, 5, 4);
     Ok(())
 }
@@ -321,7 +321,7 @@ fn fills(rt: HostRuntime) -> Result<(), Fail> {
                 assert!(rt; start <= 7);
                 assert_eq!(rt; fill.len, start + 100);
                 assert!(rt; taken(&rt, &out, start) == taken(&rt, &[0xff; 107], start));
-                let _ = parse(&out[start..start + 100], Pool::Four, 8)?;
+                let _ = FORMAT.parse(&out[start..start + 100])?;
             }
             Err(refusal) => {
                 assert!(rt; start > 7);
@@ -379,7 +379,7 @@ fn compared(rt: &impl Abort, low: &[u8], high: &[u8], same: &[u8]) -> Result<(),
 }
 
 fn handed_on(rt: &impl Abort, kept: &[u8], received: &[u8], higher: &[u8]) -> Result<(), Fail> {
-    match higher_lock(kept, received, Pool::Four, 8) {
+    match FORMAT.higher_lock(kept, received) {
         Ok(lock) => {
             assert!(rt; lock == higher);
             Ok(())
@@ -389,7 +389,7 @@ fn handed_on(rt: &impl Abort, kept: &[u8], received: &[u8], higher: &[u8]) -> Re
 }
 
 fn not_compared(rt: &impl Abort, kept: &[u8], received: &[u8]) -> Result<(), Fail> {
-    match higher_lock(kept, received, Pool::Four, 8) {
+    match FORMAT.higher_lock(kept, received) {
         Ok(_) => Err(Fail::new("a misshapen lock was compared")),
         Err(refusal) => {
             assert_eq!(rt; refusal.number(), 1);

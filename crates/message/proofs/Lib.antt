@@ -1,6 +1,5 @@
 pub mod Reading
 pub mod Votes
-pub mod Shaping
 pub mod Written
 pub mod Framed
 pub mod Lengths
@@ -9,4 +8,4 @@ pub mod Taking
 pub mod Holding
 pub mod Trips
 pub mod Sizing
-pub mod Counts
+pub mod Going

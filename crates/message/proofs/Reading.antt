@@ -9,6 +9,10 @@ pub length_entries : (m : List ℕ) (k i at : ℕ) → length (entries_from m k 
 length_entries m zero i at = refl
 length_entries m (suc k) i at = ap suc (length_entries m k (i + 1) (at + length_at m i))
 
+-- as many bodies are left as the table still speaks of
+pub length_left : (p : Place) → length (left p) ≡ count p.text - p.next
+length_left p = length_entries p.text (count p.text - p.next) p.next p.from
+
 pub from_end : (m : List ℕ) (k i at : ℕ) → at ≤ end_from m k i at
 from_end m zero i at = omega arith
 from_end m (suc k) i at = let h = from_end m k (i + 1) (at + length_at m i) in omega arith
@@ -83,3 +87,7 @@ finished_by p true is =
 -- every body was handed out and no byte is left over
 pub finished_is : (p : Place) → (eqb (length (left p)) 0 && eqb p.from (length p.text)) ≡ (ended (left p) && eqb (ending p) (length p.text))
 finished_is p = finished_by p (eqb (length (left p)) 0) refl ∙ ap (λ b. b && eqb (ending p) (length p.text)) (sym (ended_length (left p)))
+
+-- a body that was handed out is one fewer to come
+pub nearer : (p p' : Place) (e : Entry) → Nexted p p' (Some e) → length (left p') < length (left p)
+nearer p p' e n = let long : length (left p) ≡ suc (length (left p')) = ap length n.0 in omega arith

@@ -32,6 +32,5 @@ end_by : (sort n low : ℕ) (es : List Entry) (w : Bool) → (w ≡ true → es 
 end_by sort n low es false none = and_false (ended es)
 end_by sort n low es true none = ap (λ x. ended x && true) (none refl) ∙ sym (ap (λ x. true && rising sort n low x) (none refl))
 
-pub verdict_end : (sort n low : ℕ) (p : Place) → opens p.text ≡ true → (whole p ≡ true → left p ≡ []) → (ended (left p) && eqb (ending p) (length p.text)) ≡ verdict sort n low p
-verdict_end sort n low p opened none =
-    ap (λ b. ended (left p) && (b && eqb (ending p) (length p.text))) (sym opened) ∙ end_by sort n low (left p) (whole p) none
+pub verdict_end : (sort n low : ℕ) (p : Place) → (whole p ≡ true → left p ≡ []) → (ended (left p) && whole p) ≡ verdict sort n low p
+verdict_end sort n low p none = end_by sort n low (left p) (whole p) none

@@ -1,5 +1,5 @@
 -- Of a message that was read the quorum's seals can all be handed out.
-use Rattle.std.specs.Prelude.{◌≡◌, ℕ, ◌≤◌, true, length, Some, None, Ok, Err, Option, Result}
+use Rattle.std.specs.Prelude.{◌≡◌, ◌≤◌, true, length, Some, None, Ok, Err, Option, Result}
 use Rattle.message.specs.Layout.{left, whole}
 use Rattle.message.specs.Views.{place_of}
 use Rattle.message.specs.declared.shapes.Certificate.{Certificate}
@@ -9,12 +9,7 @@ use Rattle.message.specs.declared.shapes.Holds.TheVariants.{Change, Lock, Select
 use Rattle.message.specs.declared.shapes.Message.{Message}
 use Rattle.base.specs.declared.refusals.Refusal.{Refusal}
 
--- the reader stands in a message that is whole, before so many bodies
-pub record Counted (q : ℕ) (c : Certificate) : Type 0 where
-  pub votes_whole : whole (place_of c.votes) ≡ true
-  pub votes_many : length (left (place_of c.votes)) ≡ q
-
--- the same, before no more bodies than a quorum of ten members has
+-- the reader stands in a message that is whole, before no more bodies than a quorum of ten members has
 pub record WholeCert (c : Certificate) : Type 0 where
   pub votes_whole : whole (place_of c.votes) ≡ true
   pub votes_few : length (left (place_of c.votes)) ≤ 7
@@ -31,10 +26,6 @@ abbrev pub Whole : Message → Type 0
 Whole m = WholeHolds m.holds
 
 -- what a step of reading hands back, if anything
-abbrev pub CountedOption : ℕ → Option Certificate → Type 0
-CountedOption q None = Unit {0}
-CountedOption q (Some c) = Counted q c
-
 abbrev pub WholeLock : Option LockMessage → Type 0
 WholeLock None = Unit {0}
 WholeLock (Some l) = WholeCert l.certificate

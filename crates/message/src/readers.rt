@@ -1,12 +1,9 @@
 // A reader over one message, which hands out its bodies as parts of it.
-ghost use Rattle.std.specs.Prelude.{◌≡◌, ◌&&◌, length, if◌then◌else◌, Some, None, ◌==◌};
-ghost use Rattle.std.specs.Option.{option_map};
-ghost use Rattle.message.specs.Layout.{opens, opening, next_of, after_next, left, ending};
-ghost use Rattle.message.specs.Shapes.{ended};
-ghost use Rattle.message.specs.Views.{entry_of, place_of};
+ghost use Rattle.std.specs.Prelude.{◌≡◌, ◌+◌, ◌*◌, ◌≤◌, ⊤, length, slice_index};
 
 use base::counters::Member;
 use base::writing::two_at;
+use std::alloc::AllocError;
 
 // A part of a message, with the place where it begins.
 #[derive(Clone, Copy)]
@@ -23,15 +20,52 @@ pub struct Body<'a> {
     pub part: Part<'a>,
 }
 
-// One message, the place in its table of contents, and where the next body begins.
-#[derive(Clone, Copy)]
+// One message, the place in its table of contents, and where the next body begins. Header and table are there.
+#[derive(Copy)]
 pub struct Reader<'a> {
     message: &'a [u8],
     index: usize,
     at: usize,
+    ghost header: { 12 ≤ length message.now },
+    ghost zero: { slice_index message.now 3 ≡ 0 },
+    ghost table: { 12 + 4 * slice_index message.now 2 ≤ length message.now },
+}
+
+impl<'a> Clone for Reader<'a> {
+    ghost is_clone = { λ reader copy. copy ≡ reader };
+
+    ghost is_infallible = { λ _. ⊤ };
+
+    fn clone(&self) -> Result<Self, AllocError> {
+        Ok(*self)
+    }
+}
+
+impl<'a> Iterator for Reader<'a> {
+    ghost use Rattle.std.specs.Option.{option_map};
+    ghost use Rattle.std.specs.Iterator.{item_count};
+    ghost use Rattle.message.specs.Layout.{left};
+    ghost use Rattle.message.specs.Steps.{Nexted};
+    ghost use Rattle.message.specs.Views.{entry_of, place_of};
+
+    type Item = Body<'a>;
+
+    ghost next_gives = { λ before found after. Nexted (place_of before) (place_of after) (option_map entry_of found) };
+
+    ghost remaining = { item_count (λ reader. left (place_of reader)) };
+
+    fn next(&mut self) -> Option<Body<'a>> {
+        Reader::next(self)
+    }
 }
 
 impl<'a> Reader<'a> {
+    ghost use Rattle.std.specs.Prelude.{◌≡◌, ◌&&◌, length, if◌then◌else◌, Some, None, ◌==◌};
+    ghost use Rattle.std.specs.Option.{option_map};
+    ghost use Rattle.message.specs.Layout.{opens, opening, next_of, after_next, left, ending, whole};
+    ghost use Rattle.message.specs.Shapes.{ended};
+    ghost use Rattle.message.specs.Views.{entry_of, place_of};
+
     // Begins to read; none where the header or the table of contents is not there.
     pub fn new(message: &'a [u8]) -> Option<Reader<'a>>
         ensures { option_map place_of result ≡ (if opens message.now then Some (opening message.now) else None) }
@@ -56,20 +90,14 @@ impl<'a> Reader<'a> {
         ensures after { place_of self.new ≡ after_next (place_of self.old) }
     {
         let m = self.message;
-        if m.len() < 12 || self.index >= m[2] as usize {
+        if self.index >= m[2] as usize {
             return None;
         }
         let entry = 12 + 4 * self.index;
-        if m.len() < entry + 4 {
-            return None;
-        }
         let len = two_at(m, entry + 2) as usize;
-        if self.at > m.len() || len > m.len() - self.at {
-            return None;
-        }
         let part = Part {
             offset: self.at,
-            bytes: &m[self.at..self.at + len],
+            bytes: m.get(self.at..)?.get(..len)?,
         };
         self.index += 1;
         self.at += len;
@@ -84,15 +112,14 @@ impl<'a> Reader<'a> {
     pub fn remaining(&self) -> usize
         ensures { result ≡ length (left (place_of self.now)) }
     {
-        if self.message.len() < 3 {
-            return 0;
-        }
         (self.message[2] as usize).saturating_sub(self.index)
     }
 
     // Whether every body was handed out and no byte is left over.
+    #[tactic(auto, using(crate::proofs::Reading::finished_is))]
     pub fn finished(&self) -> bool
-        ensures { result ≡ (ended (left (place_of self.now)) && ending (place_of self.now) == length self.now.message.now) }
+        ensures wholly { result ≡ (ended (left (place_of self.now)) && whole (place_of self.now)) }
+        ensures is { result ≡ (ended (left (place_of self.now)) && ending (place_of self.now) == length self.now.message.now) }
     {
         self.remaining() == 0 && self.at == self.message.len()
     }

@@ -22,13 +22,8 @@ fn measure(kind: Kind, with_slip: bool, pool: Pool, seal_len: u8) -> usize
     let q = pool.quorum();
     let certificate = 12 + 4 * (2 + q) + 72 + seal + q * seal;
     match kind {
-        Kind::Change => {
-            if with_slip {
-                96 + 2 * seal
-            } else {
-                20 + 2 * seal
-            }
-        }
+        Kind::Change if with_slip => 96 + 2 * seal,
+        Kind::Change => 20 + 2 * seal,
         Kind::Lock | Kind::Select | Kind::Decide => certificate,
         Kind::Commit => 92 + seal,
         Kind::Release => 20 + certificate + seal,

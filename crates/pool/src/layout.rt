@@ -5,12 +5,16 @@ use base::pools::Pool;
 use base::refusals::Refusal;
 use base::seals::{Seal, Vote};
 use base::slips::{Mark, Slip};
-use message::locks::higher_lock;
-use message::parsing::parse;
-use message::readers::Reader;
+use message::parsing::Format;
 use message::shapes::{Certificate, Head, Holds, Message};
 use outbox::drafts::Fill;
 use outbox::writers::{write_change, write_lock, write_release};
+
+// The walk is through messages of a pool of four with seals of 8 bytes.
+const FORMAT: Format = Format {
+    pool: Pool::Four,
+    seal_len: 8,
+};
 
 // Where only the layout is shown, a seal is the member's number, the first letter of the word and six zero bytes.
 fn stand_in(member: u8, letter: u8) -> anyhow::Result<Seal> {
@@ -57,11 +61,7 @@ fn show_head(rt: &HostRuntime, head: &Head) -> anyhow::Result<()> {
 
 // The quorum's seals, read one by one where they stand in the message.
 fn show_votes(rt: &HostRuntime, c: &Certificate<'_>) -> anyhow::Result<()> {
-    let mut votes: Reader<'_> = c.votes;
-    for _ in 0..10 {
-        let Some(vote) = votes.next() else {
-            break;
-        };
+    for vote in c.votes {
         let member = vote.member.0;
         let offset = vote.part.offset;
         let len = vote.part.bytes.len();
@@ -113,7 +113,7 @@ fn show(rt: &HostRuntime, m: &Message<'_>) -> anyhow::Result<()> {
 }
 
 fn read(rt: &HostRuntime, bytes: &[u8]) -> anyhow::Result<()> {
-    match parse(bytes, Pool::Four, 8) {
+    match FORMAT.parse(bytes) {
         Ok(m) => show(rt, &m),
         Err(refusal) => {
             let number = refusal.number();
@@ -207,10 +207,8 @@ fn a_lock(out: &mut [u8], round: u32, slip: &Slip) -> anyhow::Result<usize> {
 fn hand_on(rt: &HostRuntime, old: &[u8], new: &[u8]) -> anyhow::Result<()> {
     let a = old.len();
     println!(rt; "Two locks of height 5, of rounds 0 and 3: {a} bytes each.")?;
-    match higher_lock(old, new, Pool::Four, 8) {
-        Ok(lock) => release(rt, lock),
-        Err(_) => Err(anyhow!("a lock was refused")),
-    }
+    let lock = FORMAT.higher_lock(old, new)?;
+    release(rt, lock)
 }
 
 fn release(rt: &HostRuntime, lock: &[u8]) -> anyhow::Result<()> {

@@ -5,8 +5,8 @@ use Rattle.base.specs.Writing.{wrote}
 use Rattle.base.proofs.Wrote.{put_next}
 use Rattle.base.proofs.slips.Slip.write.Goals as goal
 
-pub returns : goal.returns
-returns c =
+pub returns-clause-written : goal.returns-clause-written
+returns-clause-written c =
     let s = c.args.self.now
     in let p : List ℕ = s.parent.0
     in let o : List ℕ = s.own.0
@@ -18,9 +18,4 @@ returns c =
     in let e2 = put_next at (at + 32) p o o out _ _ e1 refl (omega arith) (omega arith) c.put-2.ensures.written
     in let e3 = put_next at (at + 64) (p ++ o) (be4 s.lots) _ out _ _ e2 c.to_be_bytes.ensures (simp length-append (omega arith)) (omega arith) c.put-3.ensures.written
     in let e4 = put_next at (at + 68) ((p ++ o) ++ be4 s.lots) (be4 s.maker) _ out _ _ e3 c.to_be_bytes-2.ensures (simp length-append (omega arith)) (omega arith) c.put-4.ensures.written
-    in record {
-      fits = search rules;
-      written = λ h. e4 ∙ ap (λ z. wrote at z out) (append_assoc (p ++ o) (be4 s.lots) (be4 s.maker) ∙ append_assoc p o (be4 s.lots ++ be4 s.maker));
-      kept = λ h. absurd (omega arith);
-      whole = record { parent_fits = long-p; own_fits = long-o; lots_fits = search rules; maker_fits = search rules };
-    }
+    in λ h. e4 ∙ ap (λ z. wrote at z out) (append_assoc (p ++ o) (be4 s.lots) (be4 s.maker) ∙ append_assoc p o (be4 s.lots ++ be4 s.maker))
