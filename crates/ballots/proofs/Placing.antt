@@ -1,6 +1,6 @@
 -- Places for members: reading, setting and blanking them, seen through what they stand for.
-use Rattle.std.proofs.Common.{◌≡◌, ℕ, zero, suc, ◌+◌, ◌<◌, ◌≤◌, Bool, true, false, cond, List, [], ◌∷◌, ◌++◌, map, length, get_or, take, drop, set, replicate, Some, None, Option, sym, refl, ap, ◌∙◌, arith}
-use Rattle.std.proofs.lemmas.List.{append_assoc, drop_more, get_or-take, length-replicate, length-take, map-set, replicate_more, set_at, set_past, take-replicate, length-map}
+use Rattle.std.proofs.Common.{◌≡◌, ℕ, zero, suc, ◌<◌, ◌≤◌, Bool, true, false, cond, List, [], ◌∷◌, ◌++◌, map, length, get_or, take, drop, set, replicate, Some, None, Option, sym, refl, ap, ◌∙◌, arith}
+use Rattle.std.proofs.lemmas.List.{drop-map, get_or-take, get_or_default, length-take, map-append, map-set, set_past, take-replicate, length-map}
 use Rattle.ballots.specs.Views.{latest_view, latest_list, committed, commit_view, records_view}
 use Rattle.ballots.specs.declared.commits.Commit.{Commit}
 use Rattle.ballots.specs.declared.commits.CommitRecord.{CommitRecord}
@@ -46,27 +46,24 @@ stated_set n xs i l = ap latest_list (take_of_set n xs i (Some l)) ∙ map-set (
 abbrev pub unused : CommitRecord
 unused = record { commit = None }
 
-blanks_more : {Y : Type 0} (y : Y) (ys : List Y) (i : ℕ) → i < length ys → set (replicate i y ++ drop i ys) i y ≡ replicate (i + 1) y ++ drop (i + 1) ys
-blanks_more y ys i h =
-    ap (λ zs. set (replicate i y ++ zs) i y) (drop_more ys i y h)
-    ∙ set_at (replicate i y) (get_or ys i y) (drop (i + 1) ys) y i (length-replicate i y)
-    ∙ sym (append_assoc (replicate i y) (y ∷ []) (drop (i + 1) ys))
-    ∙ ap (λ zs. zs ++ drop (i + 1) ys) (replicate_more i y)
-
-pub blanked_more : (was now : List CommitRecord) (i : ℕ) (r : CommitRecord) → i < length was → commit_view r ≡ None → records_view now ≡ replicate i None ++ drop i (records_view was) → records_view (set now i r) ≡ replicate (i + 1) None ++ drop (i + 1) (records_view was)
-blanked_more was now i r h blank e =
-    let long : i < length (records_view was) = omega (arith, length-map was commit_view)
-    in map-set commit_view now i r ∙ ap (λ b. set (records_view now) i b) blank ∙ ap (λ zs. set zs i None) e ∙ blanks_more None (records_view was) i long
+-- a blank in each of the first n places
+pub blanked : (n : ℕ) (was front : List CommitRecord) (r : CommitRecord) → n ≤ length was → commit_view r ≡ None → front ≡ replicate (length (take n was)) r → records_view (front ++ drop n was) ≡ replicate n None ++ drop n (records_view was)
+blanked n was front r h blank e =
+    let long : length (take n was) ≡ n = omega (arith, length-take n was)
+    in ap (λ rs. records_view (rs ++ drop n was)) (e ∙ ap (λ k. replicate k r) long)
+    ∙ map-append commit_view (replicate n r) (drop n was)
+    ∙ ap (λ cs. cs ++ records_view (drop n was)) (map_replicate commit_view n r ∙ ap (replicate n) blank)
+    ∙ ap (λ cs. replicate n None ++ cs) (sym (drop-map commit_view n was))
 
 -- a commit that is noted, and one that is not
-pub noted_new : (page : Slip) (i : ℕ) (c : Commit) (recs : List CommitRecord) → commits_to page (commit_view (get_or recs i unused)) ≡ false → records_view (set recs i (record { commit = Some c })) ≡ noted page i (committed c) (records_view recs)
-noted_new page i c recs other =
+pub noted_new : (page : Slip) (i : ℕ) (c : Commit) (recs : List CommitRecord) (d : CommitRecord) → i < length recs → commits_to page (commit_view (get_or recs i d)) ≡ false → records_view (set recs i (record { commit = Some c })) ≡ noted page i (committed c) (records_view recs)
+noted_new page i c recs d more other =
     map-set commit_view recs i (record { commit = Some c })
-    ∙ sym (ap (λ b. cond b (records_view recs) (set (records_view recs) i (Some (committed c)))) (ap (commits_to page) (get_d_seen commit_view recs i unused) ∙ other))
+    ∙ sym (ap (λ b. cond b (records_view recs) (set (records_view recs) i (Some (committed c)))) (ap (commits_to page) (get_d_seen commit_view recs i unused ∙ ap commit_view (get_or_default recs i unused d more)) ∙ other))
 
-pub noted_again : (page : Slip) (i : ℕ) (c : Commit) (recs : List CommitRecord) → commits_to page (commit_view (get_or recs i unused)) ≡ true → records_view recs ≡ noted page i (committed c) (records_view recs)
-noted_again page i c recs same =
-    sym (ap (λ b. cond b (records_view recs) (set (records_view recs) i (Some (committed c)))) (ap (commits_to page) (get_d_seen commit_view recs i unused) ∙ same))
+pub noted_again : (page : Slip) (i : ℕ) (c : Commit) (recs : List CommitRecord) (d : CommitRecord) → i < length recs → commits_to page (commit_view (get_or recs i d)) ≡ true → records_view recs ≡ noted page i (committed c) (records_view recs)
+noted_again page i c recs d more same =
+    sym (ap (λ b. cond b (records_view recs) (set (records_view recs) i (Some (committed c)))) (ap (commits_to page) (get_d_seen commit_view recs i unused ∙ ap commit_view (get_or_default recs i unused d more)) ∙ same))
 
 pub noted_past : (page : Slip) (i : ℕ) (c : Commit) (recs : List CommitRecord) → length recs ≤ i → records_view recs ≡ noted page i (committed c) (records_view recs)
 noted_past page i c recs h =

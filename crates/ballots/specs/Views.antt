@@ -13,6 +13,9 @@ use Rattle.std.specs.Option.{option_map}
 abbrev pub round_number : Round → ℕ
 round_number r = r.0
 
+abbrev pub round_in : Latest → Round
+round_in l = l.round
+
 -- a latest statement, by the bytes of its seals
 abbrev pub latest_view : Latest → Stated
 latest_view l = record { round = l.round.0; page = l.page; rchg = seal_bytes l.rchg; cand = seal_bytes l.cand }

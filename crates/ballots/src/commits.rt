@@ -6,7 +6,7 @@ ghost use Rattle.ballots.specs.Views.{committed, commit_view, records_view};
 use crate::tallies::Ballot;
 use base::counters::Member;
 use base::seals::Seal;
-use base::slips::{Slip, one_page};
+use base::slips::Slip;
 
 // A commit: the page, and the member's seal on it.
 #[derive(Clone, Copy)]
@@ -36,31 +36,26 @@ impl Ballot<Slip> for CommitRecord {
     ghost given = { λ c _. commit_of (commit_view c) };
 
     fn backs(&self, asked: &Slip) -> bool {
-        match &self.commit {
-            Some(commit) => one_page(&commit.page, asked),
-            None => false,
-        }
+        self.commit
+            .as_ref()
+            .is_some_and(|commit| commit.page == *asked)
     }
 
     fn seal(&self, asked: &Slip) -> Option<Seal> {
-        match &self.commit {
-            Some(commit) if one_page(&commit.page, asked) => Some(commit.seal),
-            _ => None,
-        }
+        self.commit
+            .as_ref()
+            .filter(|commit| commit.page == *asked)
+            .map(|commit| commit.seal)
     }
 }
 
 // Blanks the first n records; nothing where there are fewer.
-#[tactic(auto, using(crate::proofs::Placing::blanked_more))]
 pub fn blank(records: &mut [CommitRecord], n: usize)
     ensures blanked { n ≤ length records.old → records_view records.new ≡ replicate n None ++ drop n (records_view records.old) }
     ensures kept { length records.old < n → records_view records.new ≡ records_view records.old }
 {
-    if n > records.len() {
-        return;
-    }
-    for i in 0..n {
-        records[i] = CommitRecord::blank();
+    if n <= records.len() {
+        records[..n].fill(CommitRecord::blank());
     }
 }
 

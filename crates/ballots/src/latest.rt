@@ -2,17 +2,18 @@
 ghost use Rattle.std.specs.Prelude.{◌≡◌, ℕ, ◌<◌, ◌≤◌, length, replicate, Some, None, slice_index_or, slice_set};
 ghost use Rattle.std.specs.Option.{option_map};
 ghost use Rattle.base.specs.Pools.{members};
-ghost use Rattle.protocol.specs.Rounds.{of_round, higher_round, highest_round};
+ghost use Rattle.base.specs.Seals.{seal_bytes};
+ghost use Rattle.protocol.specs.Rounds.{of_round, highest_round};
 ghost use Rattle.protocol.specs.State.{tally};
-ghost use Rattle.protocol.specs.Turns.{names_in, page_of, agreed_slip, agreed_of};
-ghost use Rattle.ballots.specs.Asking.{backing, sealing, calls_for};
-ghost use Rattle.ballots.specs.Views.{latest_view, latest_list, statements_view, round_number};
+ghost use Rattle.protocol.specs.Turns.{page_of, agreed_slip, agreed_of};
+ghost use Rattle.ballots.specs.Asking.{passes, wanted, backing, sealing, calls_for};
+ghost use Rattle.ballots.specs.Views.{latest_view, latest_list, statements_view, round_number, round_in};
 
 use crate::tallies::{Ballot, count};
 use base::counters::{Member, Round};
 use base::pools::Pool;
 use base::seals::Seal;
-use base::slips::{Slip, one_page};
+use base::slips::Slip;
 
 // The latest statement of a member: its round, the page it names or none, its two seals.
 #[derive(Clone, Copy)]
@@ -52,8 +53,7 @@ impl Statements {
         ensures place { (n : ℕ) → n ≤ 10 → member.0 < n → option_map latest_view result ≡ slice_index_or (statements_view n self.now) member.0 None }
         ensures past { 10 ≤ member.0 → result ≡ None }
     {
-        let i = member.0 as usize;
-        if i < self.0.len() { self.0[i] } else { None }
+        *self.0.get(member.0 as usize)?
     }
 
     // The places of the pool's members.
@@ -61,8 +61,7 @@ impl Statements {
         ensures places { latest_list result.now ≡ statements_view (members pool) self.now }
         ensures long { length result.now ≡ members pool }
     {
-        let all: &[Option<Latest>] = &self.0;
-        &all[0..pool.size()]
+        &self.0[..pool.size()]
     }
 }
 
@@ -73,13 +72,26 @@ pub enum Asked {
     Naming(Round, Slip),
 }
 
-// Whether the statement is of the round and names the slip.
-fn names(latest: &Latest, round: Round, slip: &Slip) -> bool
-    ensures { result ≡ names_in round.0 slip.now (Some (latest_view latest.now)) }
-{
-    match &latest.page {
-        Some(page) => latest.round.0 == round.0 && one_page(page, slip),
-        None => false,
+impl Latest {
+    // Whether the statement is what is asked.
+    fn passes(&self, asked: &Asked) -> bool
+        ensures { result ≡ passes asked.now (Some (latest_view self.now)) }
+    {
+        match asked {
+            Asked::OfRound(round) => self.round == *round,
+            Asked::Naming(round, slip) => self.round == *round
+                && self.page.as_ref().is_some_and(|page| page == slip),
+        }
+    }
+
+    // The seal that is wanted of it.
+    fn wanted(&self, asked: &Asked) -> Seal
+        ensures { seal_bytes result ≡ wanted asked.now (Some (latest_view self.now)) }
+    {
+        match asked {
+            Asked::OfRound(_) => self.rchg,
+            Asked::Naming(_, _) => self.cand,
+        }
     }
 }
 
@@ -89,21 +101,13 @@ impl Ballot<Asked> for Option<Latest> {
     ghost given = { sealing };
 
     fn backs(&self, asked: &Asked) -> bool {
-        match (self, asked) {
-            (Some(latest), Asked::OfRound(round)) => latest.round.0 == round.0,
-            (Some(latest), Asked::Naming(round, slip)) => names(latest, *round, slip),
-            _ => false,
-        }
+        self.as_ref().is_some_and(|latest| latest.passes(asked))
     }
 
     fn seal(&self, asked: &Asked) -> Option<Seal> {
-        match (self, asked) {
-            (Some(latest), Asked::OfRound(round)) if latest.round.0 == round.0 => Some(latest.rchg),
-            (Some(latest), Asked::Naming(round, slip)) if names(latest, *round, slip) => Some(
-                latest.cand,
-            ),
-            _ => None,
-        }
+        self.as_ref()
+            .filter(|latest| latest.passes(asked))
+            .map(|latest| latest.wanted(asked))
     }
 }
 
@@ -115,68 +119,53 @@ pub fn in_round(latest: &[Option<Latest>], round: Round) -> usize
     count(latest, &Asked::OfRound(round))
 }
 
-// Whether the round is ahead, and at least tolerance + 2 latest statements are of it.
-fn is_called(
-    latest: &[Option<Latest>],
-    round: Round,
-    own: Round,
-    resting: bool,
-    tolerance: usize,
-) -> bool
-    ensures { result ≡ calls_for own.0 resting tolerance (latest_list latest.now) round.0 }
-{
-    let ahead = if resting {
-        own.0 <= round.0
-    } else {
-        own.0 < round.0
-    };
-    if !ahead {
-        return false;
-    }
-    let calls = in_round(latest, round);
-    calls >= 2 && calls - 2 >= tolerance
+// Who is called to a round: its own round, whether it is resting, and the pool's tolerance.
+#[derive(Clone, Copy)]
+pub struct Called {
+    pub own: Round,
+    pub resting: bool,
+    pub tolerance: usize,
 }
 
-// The higher of two rounds.
-fn higher(round: Round, other: Option<Round>) -> Round
-    ensures { result.0 ≡ higher_round round.0 (option_map round_number other) }
-{
-    match other {
-        Some(other) if other.0 > round.0 => other,
-        _ => round,
+impl Called {
+    // Whether the round is ahead, and at least tolerance + 2 latest statements are of it.
+    fn to(&self, latest: &[Option<Latest>], round: Round) -> bool
+        ensures { result ≡ calls_for self.now.own.0 self.now.resting self.now.tolerance (latest_list latest.now) round.0 }
+    {
+        let ahead = if self.resting {
+            self.own <= round
+        } else {
+            self.own < round
+        };
+        let calls = in_round(latest, round);
+        ahead && calls >= 2 && calls - 2 >= self.tolerance
+    }
+
+    // The highest round of a latest statement that is ahead, not below its own for a resting replica and else above it,
+    // and that at least tolerance + 2 latest statements are of.
+    pub fn highest(&self, latest: &[Option<Latest>]) -> Option<Round>
+        ensures { option_map round_number result ≡ highest_round (calls_for self.now.own.0 self.now.resting self.now.tolerance (latest_list latest.now)) (latest_list latest.now) }
+    {
+        latest
+            .iter()
+            .filter_map(round_of)
+            .filter(|round| self.to(latest, *round))
+            .max()
     }
 }
 
-// The highest round of a latest statement that is ahead, not below its own for a resting replica and else above it,
-// and that at least tolerance + 2 latest statements are of.
-#[tactic(auto, using(crate::proofs::Calling::called))]
-pub fn highest_called(
-    latest: &[Option<Latest>],
-    own: Round,
-    resting: bool,
-    tolerance: usize,
-) -> Option<Round>
-    ensures { option_map round_number result ≡ highest_round (calls_for own.0 resting tolerance (latest_list latest.now)) (latest_list latest.now) }
+// The round of a member's latest statement.
+fn round_of(stated: &Option<Latest>) -> Option<Round>
+    ensures { result ≡ option_map round_in stated.now }
 {
-    let mut highest = None;
-    for i in (0..latest.len()).rev() {
-        if let Some(stated) = &latest[i] {
-            if is_called(latest, stated.round, own, resting, tolerance) {
-                highest = Some(higher(stated.round, highest));
-            }
-        }
-    }
-    highest
+    Some(stated.as_ref()?.round)
 }
 
 // The page that a member's latest statement names.
 fn page_of(stated: &Option<Latest>) -> Option<Slip>
     ensures { result ≡ page_of (option_map latest_view stated.now) }
 {
-    match stated {
-        Some(latest) => latest.page,
-        None => None,
-    }
+    stated.as_ref()?.page
 }
 
 // Whether a quorum of latest statements of the round names the slip.
@@ -187,16 +176,11 @@ fn is_agreed(latest: &[Option<Latest>], quorum: usize, round: Round, slip: Slip)
 }
 
 // The slip that a quorum of latest statements of the round names.
-#[tactic(auto, using(crate::proofs::Calling::agreed_here, crate::proofs::Calling::not_agreed, crate::proofs::Calling::not_named))]
 pub fn agreed(latest: &[Option<Latest>], quorum: usize, round: Round) -> Option<Slip>
     ensures { result ≡ agreed_of quorum round.0 (latest_list latest.now) (latest_list latest.now) }
 {
-    for stated in latest {
-        if let Some(slip) = page_of(stated) {
-            if is_agreed(latest, quorum, round, slip) {
-                return Some(slip);
-            }
-        }
-    }
-    None
+    latest
+        .iter()
+        .filter_map(page_of)
+        .find(|slip| is_agreed(latest, quorum, round, *slip))
 }

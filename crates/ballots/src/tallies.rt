@@ -1,11 +1,13 @@
 // Counting records, and the votes of the lowest members.
 ghost use Rattle.std.specs.Prelude.{◌≡◌, ℕ, ◌≤◌, Bool, List, map, length, take, if◌then◌else◌, Some, None};
 ghost use Rattle.std.specs.Option.{option_map};
+ghost use Rattle.base.specs.Bounded.{items};
 ghost use Rattle.base.specs.Seals.{seal_bytes};
 ghost use Rattle.outbox.specs.Written.{signed_by};
 ghost use Rattle.protocol.specs.State.{tally};
 ghost use Rattle.protocol.specs.Turns.{votes_from};
 
+use base::bounded::Bounded;
 use base::counters::Member;
 use base::seals::{Seal, Vote};
 
@@ -28,35 +30,34 @@ pub trait Ballot<Q> {
 pub fn count<Q, B: Ballot<Q>>(records: &[B], asked: &Q) -> usize
     ensures { result ≡ tally (λ b. B.backed b asked.now) records.now }
 {
-    let mut n = 0;
-    for record in records {
-        if record.backs(asked) {
-            n += 1;
-        }
-    }
-    n
+    records.iter().filter(|record| record.backs(asked)).count()
 }
 
-// Fills `votes` with the votes of the lowest members whose records are for what is asked, a quorum at most, as far as
-// there is room; record i is of member i. Returns how many there are.
-#[tactic(auto, using(crate::proofs::Counting::whole_none, crate::proofs::Counting::filled_more, crate::proofs::Counting::filled_same, crate::proofs::Counting::filled_all))]
-pub fn lowest<Q, B: Ballot<Q>>(records: &[B], asked: &Q, quorum: usize, votes: &mut [Vote]) -> usize
-    ensures within { result ≤ length votes.new }
-    ensures votes { quorum ≤ length votes.old → length records.now ≤ 256 → map signed_by (take result votes.new) ≡ take quorum (votes_from (λ b. B.backed b asked.now) (λ b. B.given b asked.now) 0 records.now) }
+// The votes of the lowest members whose records are for what is asked, a quorum at most, as far as there is room; record i
+// is of member i. `blank` stands in every place that is left.
+pub fn lowest<Q, B: Ballot<Q>, const N: usize>(
+    records: &[B],
+    asked: &Q,
+    quorum: usize,
+    blank: Vote,
+) -> Bounded<Vote, N>
+    ensures within { length (items result) ≤ N }
+    ensures votes { quorum ≤ N → length records.now ≤ 256 → map signed_by (items result) ≡ take quorum (votes_from (λ b. B.backed b asked.now) (λ b. B.given b asked.now) 0 records.now) }
 {
-    let room = quorum.min(votes.len());
-    let mut filled = 0;
-    for i in 0..records.len().min(256) {
-        if filled >= room {
-            return filled;
+    let mut votes = Bounded::empty(blank);
+    for (i, record) in records.iter().enumerate() {
+        let Ok(member) = u8::try_from(i) else {
+            return votes;
+        };
+        if votes.as_slice().len() >= quorum {
+            return votes;
         }
-        if let Some(seal) = records[i].seal(asked) {
-            votes[filled] = Vote {
-                member: Member(i as u8),
+        if let Some(seal) = record.seal(asked) {
+            votes.push(Vote {
+                member: Member(member),
                 seal,
-            };
-            filled += 1;
+            });
         }
     }
-    filled
+    votes
 }

@@ -62,6 +62,7 @@ impl<C: Checker> Seals<'_, C> {
     }
 
     // Refused at the first of the quorum's seals that is not recognised.
+    // Kept: that all of them are there stays a premise, since anyone may fill in a certificate's public fields.
     fn votes(&self, statement: &Statement, votes: Reader<'_>) -> Result<(), Refusal>
         ensures { whole (place_of votes.entry) ≡ true → length (left (place_of votes.entry)) ≤ 7 → result ≡ passing (bad_seal (C.Checker.recognised self.now.checker.now) (vote_checks 2 self.now.inside statement.now (votes_at (place_of votes.entry)))) }
     {

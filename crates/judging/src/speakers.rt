@@ -12,6 +12,7 @@ use message::shapes::{Certificate, Head, Holds, Message};
 
 // Whether neither the sender of a message nor a member in whose name a seal stands is a stranger, and a lock, select or
 // decide comes from its leader. It says so of every message that was read.
+// Kept: that it was read stays a premise, since anyone may fill in a message's public fields.
 pub fn familiar(pool: Pool, m: &Message<'_>) -> bool
     ensures { Whole m.now → result ≡ familiar pool (sent_of m.now) }
 {

@@ -1,4 +1,3 @@
 pub mod Changing
 pub mod Gathering
-pub mod Parting
 pub mod Shelving

@@ -1,55 +1,56 @@
--- The candidates in use: a part of the array that is changed, a place for one more.
-use Rattle.std.proofs.Common.{◌≡◌, ℕ, ◌+◌, ◌-◌, ◌<◌, ◌≤◌, min, Bool, true, false, cond, ◌||◌, ltb, ◌⊎◌, List, [], ◌∷◌, ◌++◌, length, take, drop, set, None, sym, refl, ap, ◌∙◌, inl, inr, ⊎_elim, true≢false, arith}
-use Rattle.std.proofs.lemmas.List.{length-map, length-take, map-append, take_more_set}
-use Rattle.std.proofs.lemmas.Bool.{lt-ltb, le-ltb}
+-- The candidates in use, a place for one more; the front of a message.
+use Rattle.std.proofs.Common.{◌≡◌, ℕ, ◌+◌, ◌<◌, ◌≤◌, min, Bool, true, false, cond, not, ◌||◌, leb, ltb, List, [], ◌∷◌, ◌++◌, length, take, None, sym, refl, ap, ◌∙◌, ⊎_elim, arith}
+use Rattle.std.proofs.lemmas.List.{length-map, length-take, map-append, take_all}
+use Rattle.std.proofs.lemmas.Bool.{lt-ltb, le-ltb, le-leb, lt-leb, cases_lt}
 use Rattle.base.specs.declared.slips.Slip.{Slip}
 use Rattle.protocol.specs.Rounds.{known, has_place, shelved}
-use Rattle.protocol.specs.State.{Candidate as Known-slip}
 use Rattle.shelf.specs.Views.{candidate_view}
 use Rattle.shelf.specs.declared.candidates.Candidate.{Candidate}
 use Rattle.shelf.proofs.Gathering.{views}
-use Rattle.shelf.proofs.Parting.{take_min, take_changed}
 
--- what is done to the part in use is done to the candidates
-pub changed : (F : List Known-slip → List Known-slip) (len n : ℕ) (xs ys : List Candidate) → length xs ≡ 16 → n ≡ min len 16 → length ys ≡ length (take (n - 0) xs) → views ys ≡ F (views (take (n - 0) xs)) → views (take len (ys ++ drop (n - 0) xs)) ≡ F (views (take len xs))
-changed F len n xs ys all is long made =
-    let k : n - 0 ≡ min len 16 = omega arith in
-    let front = length-take (n - 0) xs in
-    ap views (take_changed len (n - 0) xs ys (omega arith) (omega arith))
-    ∙ made
-    ∙ ap (λ (cs : List Candidate). F (views cs)) (ap (λ j. take j xs) k ∙ take_min len 16 xs (omega arith))
-
-length_views : (cs : List Candidate) (S : List Known-slip) → views cs ≡ S → length S ≡ length cs
-length_views cs S is = ap length (sym is) ∙ length-map cs candidate_view
+-- there is room, or not
+room : (n : ℕ) → not (leb 16 n) ≡ ltb n 16
+room n =
+    ⊎_elim
+    (λ (lt : n < 16). ap not (lt-leb 16 n lt) ∙ sym (lt-ltb n 16 lt))
+    (λ (ge : 16 ≤ n). ap not (le-leb 16 n ge) ∙ sym (le-ltb n 16 ge))
+    (cases_lt n 16)
 
 -- where the slip is not among them, the room decides
-pub place_by_room : (s : Slip) (cs : List Candidate) (S : List Known-slip) → views cs ≡ S → false ≡ known s (views cs) → ltb (length cs) 16 ≡ has_place s S
-place_by_room s cs S is not =
-    ap (λ n. ltb n 16) (sym (length_views cs S is)) ∙ ap (λ b. b || ltb (length S) 16) (not ∙ ap (known s) is)
+pub place_by_room : (s : Slip) (cs : List Candidate) → false ≡ known s (views cs) → not (leb 16 (length cs)) ≡ has_place s (views cs)
+place_by_room s cs unknown =
+    room (length cs) ∙ ap (λ n. ltb n 16) (sym (length-map cs candidate_view)) ∙ ap (λ b. b || ltb (length (views cs)) 16) unknown
 
--- a new slip comes last
-pub shelved_last : (s : Slip) (slots cs : List Candidate) (len : ℕ) → len < 16 → length slots ≡ 16 → views cs ≡ views (take len slots) → false ≡ known s (views cs) → views (take (len + 1) (set slots len (record { slip = s; lock = None }))) ≡ cond (has_place s (views (take len slots))) (shelved s (views (take len slots))) (views (take len slots))
-shelved_last s slots cs len room all is not =
-    let S = views (take len slots) in
-    let new : Known-slip = record { slip = s; lock = None } in
-    let unknown : known s S ≡ false = sym (not ∙ ap (known s) is) in
-    let few : length S ≡ len = length_views (take len slots) S refl ∙ length-take len slots ∙ omega arith in
-    let free : ltb (length S) 16 ≡ true = lt-ltb (length S) 16 (omega arith) in
-    ap views (take_more_set slots len (record { slip = s; lock = None }) (omega arith))
-    ∙ map-append candidate_view (take len slots) (record { slip = s; lock = None } ∷ [])
-    ∙ sym (λ i. cond (unknown i || free i) (cond (unknown i) S (S ++ new ∷ [])) S)
+-- a new slip comes last, where there is room
+pushed : (fits : Bool) (cs : List Candidate) (c : Candidate) → views (cond fits (cs ++ c ∷ []) cs) ≡ cond fits (views cs ++ candidate_view c ∷ []) (views cs)
+pushed true cs c = map-append candidate_view cs (c ∷ [])
+pushed false cs c = refl
 
--- else they stay as they are
-pick : {X : Type 0} (b p : Bool) (x y : X) → (b ≡ true) ⊎ (p ≡ false) → x ≡ cond (b || p) (cond b x y) x
-pick true p x y h = refl
-pick false true x y h = absurd (⊎_elim (λ e. true≢false (sym e)) true≢false h)
-pick false false x y h = refl
+pub shelved_last : (s : Slip) (cs new : List Candidate) (fits : Bool) → false ≡ known s (views cs) → fits ≡ ltb (length cs) 16 → new ≡ cond fits (cs ++ record { slip = s; lock = None } ∷ []) cs → views new ≡ cond (has_place s (views cs)) (shelved s (views cs)) (views cs)
+shelved_last s cs new fits unknown room is =
+    let S = views cs in
+    let free : fits ≡ ltb (length S) 16 = room ∙ ap (λ n. ltb n 16) (sym (length-map cs candidate_view)) in
+    ap views is ∙ pushed fits cs (record { slip = s; lock = None })
+    ∙ (λ i. cond (unknown i || free i) (cond (unknown i) S (S ++ record { slip = s; lock = None } ∷ [])) S)
 
-pub shelved_known : (s : Slip) (cs : List Candidate) (S : List Known-slip) → views cs ≡ S → true ≡ known s (views cs) → S ≡ cond (has_place s S) (shelved s S) S
-shelved_known s cs S is in-it = pick (known s S) (ltb (length S) 16) S (S ++ record { slip = s; lock = None } ∷ []) (inl (sym (in-it ∙ ap (known s) is)))
+-- a slip that is there stays
+pub shelved_known : (s : Slip) (cs : List Candidate) → true ≡ known s (views cs) → views cs ≡ cond (has_place s (views cs)) (shelved s (views cs)) (views cs)
+shelved_known s cs there =
+    let S = views cs in
+    λ i. cond (there i || ltb (length S) 16) (cond (there i) S (S ++ record { slip = s; lock = None } ∷ [])) S
 
-pub shelved_full : (s : Slip) (slots : List Candidate) (len : ℕ) → 16 ≤ len → length slots ≡ 16 → views (take len slots) ≡ cond (has_place s (views (take len slots))) (shelved s (views (take len slots))) (views (take len slots))
-shelved_full s slots len full all =
-    let S = views (take len slots) in
-    let many : length S ≡ 16 = length_views (take len slots) S refl ∙ length-take len slots ∙ omega arith in
-    pick (known s S) (ltb (length S) 16) S (S ++ record { slip = s; lock = None } ∷ []) (inr (le-ltb (length S) 16 (omega arith)))
+-- the front of a message
+take_most : (most : ℕ) (m : List ℕ) → take (min (length m) most) m ≡ take most m
+take_most most m =
+    ⊎_elim
+    (λ (lt : length m < most). take_all (min (length m) most) m (omega arith) ∙ sym (take_all most m (omega arith)))
+    (λ (ge : most ≤ length m). let e : min (length m) most ≡ most = omega arith in ap (λ k. take k m) e)
+    (cases_lt (length m) most)
+
+pub front_kept : (m old new : List ℕ) (n most : ℕ) (fits : Bool) → n ≡ min (length m) most → old ≡ [] → fits ≡ leb (length old + length (take n m)) most → new ≡ cond fits (old ++ take n m) old → new ≡ take most m
+front_kept m old new n most fits is blank room kept =
+    let none : length old ≡ 0 = ap length blank in
+    let long = length-take n m in
+    let le : length old + length (take n m) ≤ most = omega arith in
+    kept ∙ ap (λ b. cond b (old ++ take n m) old) (room ∙ le-leb (length old + length (take n m)) most le)
+    ∙ ap (λ o. o ++ take n m) blank ∙ ap (λ k. take k m) is ∙ take_most most m

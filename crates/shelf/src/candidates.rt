@@ -8,6 +8,7 @@ ghost use Rattle.shelf.specs.Views.{candidate_view, shelf_view, held_view};
 use crate::held::Held;
 use crate::marks::{keep_only, lock_at};
 use crate::scans::{Locks, all_below, highest, knows, locks_of, top_of};
+use base::bounded::Bounded;
 use base::counters::Round;
 use base::slips::{Mark, Slip};
 use rules::rulebooks::Rulebook;
@@ -22,8 +23,7 @@ pub struct Candidate {
 // At most 16 candidates, in order of arrival.
 #[derive(Clone, Copy)]
 pub struct Candidates {
-    slots: [Candidate; 16],
-    len: usize,
+    known: Bounded<Candidate, 16>,
 }
 
 impl Candidates {
@@ -37,19 +37,14 @@ impl Candidates {
             maker: 0,
         };
         Candidates {
-            slots: [Candidate { slip, lock: None }; 16],
-            len: 0,
+            known: Bounded::empty(Candidate { slip, lock: None }),
         }
     }
 
     pub fn as_slice(&self) -> &[Candidate]
         ensures { map candidate_view result.now ≡ shelf_view self.now }
     {
-        let all: &[Candidate] = &self.slots;
-        if self.len > all.len() {
-            return all;
-        }
-        &all[0..self.len]
+        self.known.as_slice()
     }
 
     // Whether the slip is among them or there is room for it.
@@ -57,8 +52,7 @@ impl Candidates {
     pub fn has_place(&self, slip: &Slip) -> bool
         ensures { result ≡ has_place slip.now (shelf_view self.now) }
     {
-        let candidates = self.as_slice();
-        knows(candidates, slip) || candidates.len() < 16
+        knows(self.as_slice(), slip) || !self.known.is_full()
     }
 
     // Puts the slip last, without a lock, unless it is among them or there is no room for it.
@@ -66,13 +60,11 @@ impl Candidates {
     pub fn shelve(&mut self, slip: &Slip)
         ensures { shelf_view self.new ≡ (if has_place slip.now (shelf_view self.old) then shelved slip.now (shelf_view self.old) else shelf_view self.old) }
     {
-        let all: &[Candidate] = &self.slots;
-        if self.len < all.len() && !knows(self.as_slice(), slip) {
-            self.slots[self.len] = Candidate {
+        if !knows(self.as_slice(), slip) {
+            self.known.push(Candidate {
                 slip: *slip,
                 lock: None,
-            };
-            self.len += 1;
+            });
         }
     }
 
@@ -80,17 +72,15 @@ impl Candidates {
     pub fn lock(&mut self, slip: &Slip, round: Round)
         ensures { shelf_view self.new ≡ locked_at slip.now round.0 (shelf_view self.old) }
     {
-        let len = self.len.min(16);
-        lock_at(&mut self.slots[0..len], slip, round);
+        self.known
+            .change(|candidates| lock_at(candidates, slip, round));
     }
 
     // Takes every lock away.
-    #[tactic(auto, using(crate::proofs::Shelving::changed))]
     pub fn unlock(&mut self)
         ensures { shelf_view self.new ≡ unlocked (shelf_view self.old) }
     {
-        let len = self.len.min(16);
-        keep_only(&mut self.slots[0..len], &None);
+        self.known.change(|candidates| keep_only(candidates, &None));
     }
 
     // Whether the round is above that of every lock.
@@ -105,8 +95,7 @@ impl Candidates {
         ensures { shelf_view self.new ≡ keep_only (highest_lock (option_map held_view held.now) (locks_of (shelf_view self.old))) (shelf_view self.old) }
     {
         let only = highest(self.as_slice(), held);
-        let len = self.len.min(16);
-        keep_only(&mut self.slots[0..len], &only);
+        self.known.change(|candidates| keep_only(candidates, &only));
     }
 
     // The slip that ranks highest.

@@ -14,10 +14,7 @@ use base::slips::{Slip, one_page};
 fn raise(lock: Option<Round>, round: Round) -> Round
     ensures { Some result.0 ≡ raised (option_map round_view lock) round.0 }
 {
-    match lock {
-        Some(old) if old.0 > round.0 => old,
-        _ => round,
-    }
+    lock.map_or(round, |old| old.max(round))
 }
 
 // Locks the slip in the round, unless it is already locked in a higher one.
@@ -36,10 +33,9 @@ pub(crate) fn lock_at(candidates: &mut [Candidate], slip: &Slip, round: Round)
 fn kept_in(slip: &Slip, only: &Option<Lock>) -> Option<Round>
     ensures { option_map round_view result ≡ kept_in slip.now (option_map lock_view only.now) }
 {
-    match only {
-        Some(lock) if one_page(slip, &lock.slip) => Some(lock.round),
-        _ => None,
-    }
+    only.as_ref()
+        .filter(|lock| *slip == lock.slip)
+        .map(|lock| lock.round)
 }
 
 // Takes every lock away but that one.

@@ -9,7 +9,7 @@ ghost use Rattle.shelf.specs.Locks.{lock_view, in_locks, higher_of, more_locks};
 use crate::candidates::Candidate;
 use crate::held::Held;
 use base::counters::Round;
-use base::slips::{Slip, one_page};
+use base::slips::Slip;
 use rules::rulebooks::Rulebook;
 
 // A slip and the round in which it is locked.
@@ -31,51 +31,35 @@ pub(crate) enum Locks {
 pub(crate) fn knows(candidates: &[Candidate], slip: &Slip) -> bool
     ensures { result ≡ known slip.now (map candidate_view candidates.now) }
 {
-    for c in candidates {
-        if one_page(&c.slip, slip) {
-            return true;
-        }
-    }
-    false
+    candidates.iter().any(|c| c.slip == *slip)
 }
 
 // Whether a lock, if there is one, is below the round.
 fn below(candidate: &Candidate, round: Round) -> bool
     ensures { result ≡ above_all round.0 (lock_in candidate.now.slip (option_map round_view candidate.now.lock)) }
 {
-    match candidate.lock {
-        Some(lock) => lock.0 < round.0,
-        None => true,
-    }
+    candidate.lock.is_none_or(|lock| lock < round)
 }
 
 // Whether every lock is below the round.
 pub(crate) fn all_below(candidates: &[Candidate], round: Round) -> bool
     ensures { result ≡ above_all round.0 (locks_of (map candidate_view candidates.now)) }
 {
-    for c in candidates {
-        if !below(c, round) {
-            return false;
-        }
-    }
-    true
+    candidates.iter().all(|c| below(c, round))
 }
 
 // Whether the message that is held is of that slip.
 fn is_held(held: &Option<Held>, slip: &Slip) -> bool
     ensures { result ≡ is_held (option_map held_view held.now) slip.now }
 {
-    match held {
-        Some(h) => one_page(&h.slip, slip),
-        None => false,
-    }
+    held.as_ref().is_some_and(|h| h.slip == *slip)
 }
 
 // Whether the first lock is higher; of equals, whether its message is held.
 fn beats_lock(held: &Option<Held>, lock: &Lock, other: &Lock) -> bool
     ensures { result ≡ beats (option_map held_view held.now) (lock_view lock.now) (lock_view other.now) }
 {
-    lock.round.0 > other.round.0 || lock.round.0 == other.round.0 && is_held(held, &lock.slip)
+    lock.round > other.round || lock.round == other.round && is_held(held, &lock.slip)
 }
 
 // The higher of a candidate's lock and another, as far as there are such.
@@ -89,21 +73,18 @@ fn higher_of(held: &Option<Held>, candidate: &Candidate, best: Option<Lock>) -> 
         slip: candidate.slip,
         round,
     };
-    match best {
-        Some(other) if !beats_lock(held, &lock, &other) => Some(other),
-        _ => Some(lock),
-    }
+    best.filter(|other| !beats_lock(held, &lock, other))
+        .or(Some(lock))
 }
 
 // The highest lock; of equals the one whose message is held.
 pub(crate) fn highest(candidates: &[Candidate], held: &Option<Held>) -> Option<Lock>
     ensures { option_map lock_view result ≡ highest_lock (option_map held_view held.now) (locks_of (map candidate_view candidates.now)) }
 {
-    let mut best = None;
-    for i in (0..candidates.len()).rev() {
-        best = higher_of(held, &candidates[i], best);
-    }
-    best
+    candidates
+        .iter()
+        .rev()
+        .fold(None, |best, c| higher_of(held, c, best))
 }
 
 // Which slips are locked, with one candidate more.
@@ -121,30 +102,26 @@ fn more_locks(candidate: &Candidate, locks: Locks) -> Locks
 pub(crate) fn locks_of(candidates: &[Candidate]) -> Locks
     ensures { result ≡ in_locks (locks_of (map candidate_view candidates.now)) }
 {
-    let mut locks = Locks::Free;
-    for i in (0..candidates.len()).rev() {
-        locks = more_locks(&candidates[i], locks);
-    }
-    locks
+    candidates
+        .iter()
+        .rev()
+        .fold(Locks::Free, |locks, c| more_locks(c, locks))
 }
 
 // The higher-ranked of a slip and another, if there is one.
 fn better_of<R: Rulebook>(rules: &R, slip: Slip, best: Option<Slip>) -> Slip
     ensures { result ≡ better_of (R.Rulebook.ranked rules.now) slip best }
 {
-    match best {
-        Some(other) if rules.above(&other, &slip) => other,
-        _ => slip,
-    }
+    best.filter(|other| rules.above(other, &slip))
+        .unwrap_or(slip)
 }
 
 // The slip that ranks highest.
 pub(crate) fn top_of<R: Rulebook>(candidates: &[Candidate], rules: &R) -> Option<Slip>
     ensures { result ≡ top_of (R.Rulebook.ranked rules.now) (map candidate_view candidates.now) }
 {
-    let mut best = None;
-    for i in (0..candidates.len()).rev() {
-        best = Some(better_of(rules, candidates[i].slip, best));
-    }
-    best
+    candidates
+        .iter()
+        .rev()
+        .fold(None, |best, c| Some(better_of(rules, c.slip, best)))
 }

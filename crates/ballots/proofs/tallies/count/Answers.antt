@@ -1,19 +1,13 @@
-use Rattle.std.proofs.Common.{true, false, arith}
-use Rattle.ballots.proofs.Counting.{count_more, count_all}
+use Rattle.std.proofs.Common.{◌∙◌, rules, tests}
+use Rattle.std.proofs.lemmas.Iterator.{YieldsList-from_slice}
+use Rattle.std.proofs.lemmas.Iterator.Consumers.{YieldsList-from_filter, count_from_yields_List}
+use Rattle.std.proofs.lemmas.List.Sums.{length-filter}
+use Rattle.ballots.proofs.Counting.{tally_counts}
 use Rattle.ballots.proofs.tallies.count.Goals as goal
-use Rattle.ballots.proofs.tallies.count.Goals.{then-backs, else-backs}
-
-pub loop-record-preserved : goal.loop-record-preserved
-loop-record-preserved g c =
-    let test = λ (b : g.row.B.Denot). g.B.Ballot.backed b c.args.asked.now
-    in let x = c.record-item.result
-    in let more = count_more test c.args.records.now c.loop-record.record-index c.loop-record.n c.loop-record.invariant.0 c.if-backs.n x c.backs.result
-    in let small = c.loop-record.invariant.1
-    in elim c.if-backs.branch [
-      | then-backs w ↦ (more true (omega arith) c.record-item.is c.backs.ensures w.if-backs.true w.n-is, omega (arith, w.n-is))
-      | else-backs w ↦ (more false (omega arith) c.record-item.is c.backs.ensures w.if-backs.false (omega (arith, w.n-is)), omega (arith, w.n-is))
-    ]
 
 pub returns : goal.returns
 returns g c =
-    count_all (λ (b : g.row.B.Denot). g.B.Ballot.backed b c.args.asked.now) c.args.records.now c.loop-record.record-index c.loop-record.n c.loop-record.invariant.0 c.loop-record-test.false
+    let test = λ (b : g.row.B.Denot). g.B.Ballot.backed b c.args.asked.now in
+    count_from_yields_List c.filter.result _ c.count.ensures.ran (YieldsList-from_filter _ test (YieldsList-from_slice c.args.records.now cc) c.filter.ensures.closure (λ x r q k. search (rules, tests)))
+    ∙ length-filter test c.args.records.now
+    ∙ tally_counts test c.args.records.now

@@ -1,16 +1,25 @@
-use Rattle.std.proofs.Common.{List}
+use Rattle.std.proofs.Common.{◌≡◌, List, reverse, refl, sym, ap, ◌∙◌, rules, tests}
+use Rattle.std.specs.Iterator.Adapters.{rev_steps}
+use Rattle.std.specs.Slice.Iter.{iter_steps_back}
+use Rattle.std.proofs.lemmas.Fn.{fold_over}
+use Rattle.std.proofs.lemmas.List.{reverse-reverse}
+use Rattle.std.proofs.lemmas.Iterator.Adapters.{YieldsList-from_rev_slice}
 use Rattle.std.specs.Option.{option_map}
 use Rattle.protocol.specs.Rounds.{locks_of, highest_lock}
-use Rattle.shelf.specs.Locks.{lock_view}
-use Rattle.shelf.specs.Views.{held_view}
+use Rattle.shelf.specs.Locks.{lock_view, higher_of}
+use Rattle.shelf.specs.Views.{round_view, held_view}
 use Rattle.shelf.specs.declared.candidates.Candidate.{Candidate}
-use Rattle.shelf.proofs.Gathering.{views, behind_last, highest_back}
+use Rattle.shelf.proofs.Gathering.{views, one_more, higher_first}
 use Rattle.shelf.proofs.scans.highest.Goals as goal
 
-pub loop-i-init : goal.loop-i-init
-loop-i-init c = behind_last (λ (cs : List Candidate). highest_lock (option_map held_view c.args.held.now) (locks_of (views cs))) c.args.candidates.now
-
-pub loop-i-preserved : goal.loop-i-preserved
-loop-i-preserved c =
-    highest_back c.args.candidates.now c.loop-i.i c.loop-i-test.true c.loop-i.auto.i (option_map held_view c.args.held.now)
-    (option_map lock_view c.loop-i.best) (option_map lock_view c.higher_of-best.result) c.loop-i.invariant c.higher_of-best.ensures
+pub returns : goal.returns
+returns c =
+    let cs = c.args.candidates.now in
+    let h = option_map held_view c.args.held.now in
+    let F = λ (ds : List Candidate). highest_lock h (locks_of (views ds)) in
+    fold_over (rev_steps iter_steps_back) (λ y. y.now) _ (λ ds a. option_map lock_view a ≡ F (reverse ds)) _
+    (λ ds a x b f' j k.
+    let is : option_map lock_view b ≡ higher_of h x.now.slip (option_map round_view x.now.lock) (option_map lock_view a) = search (rules, tests) in
+    (one_more F ds x.now (option_map lock_view b) (is ∙ ap (higher_of h x.now.slip (option_map round_view x.now.lock)) j ∙ sym (higher_first h x.now.slip (option_map round_view x.now.lock) (locks_of (views (reverse ds))))), search (rules, tests)))
+    c.rev.result _ _ _ (YieldsList-from_rev_slice {s = c.rev.result} cs cc).runs refl c.fold.ensures.ran
+    ∙ ap F (reverse-reverse cs)

@@ -1,11 +1,13 @@
-use Rattle.shelf.proofs.Gathering.{known_here, known_further, known_nowhere}
+use Rattle.std.proofs.Common.{◌∙◌, rules, tests}
+use Rattle.std.proofs.lemmas.Iterator.{YieldsList-from_slice}
+use Rattle.std.proofs.lemmas.Iterator.Search.{any_from_yields_List}
+use Rattle.base.specs.Slips.{one_page}
+use Rattle.shelf.specs.declared.candidates.Candidate.{Candidate}
+use Rattle.shelf.proofs.Gathering.{known_any}
 use Rattle.shelf.proofs.scans.knows.Goals as goal
 
-pub returns-then-one_page : goal.returns-then-one_page
-returns-then-one_page c = known_here c.args.slip.now c.args.candidates.now c.loop-c.c-index c.loop-c.invariant c.loop-c-test.true c.if-one_page.ensures
-
-pub loop-c-preserved : goal.loop-c-preserved
-loop-c-preserved c = known_further c.args.slip.now c.args.candidates.now c.loop-c.c-index c.loop-c.invariant c.loop-c-test.true c.if-one_page.ensures
-
 pub returns : goal.returns
-returns c = known_nowhere c.args.slip.now c.args.candidates.now c.loop-c.c-index c.loop-c.invariant c.loop-c-test.false
+returns c =
+    let cs = c.args.candidates.now in
+    any_from_yields_List (λ (d : Candidate). one_page d.slip c.args.slip.now) _ _ _ c.any.ensures.ran (YieldsList-from_slice cs cc) (λ x b q k. search (rules, tests))
+    ∙ known_any c.args.slip.now cs
