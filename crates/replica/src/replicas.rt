@@ -1,7 +1,7 @@
 // A member's replica of the receipt book. It takes slips, ticks and messages, answers or refuses, and appends at most one
 // message to the lent outbox. A refused call changes nothing but the seals that it spent.
 ghost use Rattle.std.specs.Prelude.{◌≡◌, []};
-ghost use Rattle.holding.specs.Outcome.{Outcome};
+ghost use Rattle.holding.specs.Outcome.{Does, DoesAlone};
 ghost use Rattle.holding.specs.Views.{box_of, rules_by, settings_view};
 ghost use Rattle.moves.specs.Comparing.{compared, handed};
 ghost use Rattle.protocol.specs.Answering.{answered};
@@ -19,7 +19,7 @@ use base::counters::{Height, Member, Round};
 use base::refusals::Refusal;
 use base::slips::{Mark, Slip};
 use base::stages::Stage;
-use holding::cores::Core;
+use holding::cores::{Boxed, Core};
 use holding::settings::Settings;
 use holding::states::State;
 use moves::{calls, comparing, messages};
@@ -34,11 +34,15 @@ use turns::{closing, committing, forwarding, opening};
 #[derive(Drop)]
 pub struct Replica<S, R>(Core<S, R>);
 
+impl<S: Sealer, R: Rulebook> Boxed for Replica<S, R> {
+    ghost boxed = { λ replica. box_of S.Sealer.meaning R.Rulebook.admitted R.Rulebook.ranked replica.0 };
+}
+
 impl<S: Sealer, R: Rulebook> Replica<S, R> {
     // Opens a replica, resting at the start height. It takes its sealer for good: a second replica gets its own. Whoever
     // opens one is promised that sound replicas never enter different pages, and that every call is a step of such a run.
     pub fn open(settings: Settings, sealer: S, rules: R) -> Replica<S, R>
-        ensures rests { box_of S.Sealer.meaning R.Rulebook.admitted R.Rulebook.ranked result.0 ≡ record { settings = settings_view settings; sealer = S.Sealer.meaning sealer; rules = rules_by (R.Rulebook.admitted rules) (R.Rulebook.ranked rules); view = first_view (settings_view settings) } }
+        ensures rests { ⟦<Self as Boxed>⟧.boxed result ≡ record { settings = settings_view settings; sealer = S.Sealer.meaning sealer; rules = rules_by (R.Rulebook.admitted rules) (R.Rulebook.ranked rules); view = first_view (settings_view settings) } }
         ensures agreement { AgreementOfReplicas }
         ensures steps { CallsAreSteps }
     {
@@ -53,21 +57,21 @@ impl<S: Sealer, R: Rulebook> Replica<S, R> {
 
     // Puts an admitted slip on the chain among the candidates.
     pub fn offer(&mut self, slip: &Slip) -> Result<Answer, Refusal>
-        ensures { Outcome (box_of S.Sealer.meaning R.Rulebook.admitted R.Rulebook.ranked self.old.0) (box_of S.Sealer.meaning R.Rulebook.admitted R.Rulebook.ranked self.new.0) 0 0 [] [] (judge_offer (box_of S.Sealer.meaning R.Rulebook.admitted R.Rulebook.ranked self.old.0) slip.now) (answered result) }
+        ensures { DoesAlone ⟦<Self as Boxed>⟧.boxed self.old self.new (λ b. judge_offer b slip.now) (answered result) }
     {
         calls::offer(&mut self.0, slip)
     }
 
     // In resting, states round 0.
     pub fn begin(&mut self, out: &mut [u8], fill: &mut Fill) -> Result<Answer, Refusal>
-        ensures { Outcome (box_of S.Sealer.meaning R.Rulebook.admitted R.Rulebook.ranked self.old.0) (box_of S.Sealer.meaning R.Rulebook.admitted R.Rulebook.ranked self.new.0) fill.old.len fill.new.len out.old out.new (judge_begin (box_of S.Sealer.meaning R.Rulebook.admitted R.Rulebook.ranked self.old.0)) (answered result) }
+        ensures { Does ⟦<Self as Boxed>⟧.boxed self.old self.new fill.old.len fill.new.len out.old out.new judge_begin (answered result) }
     {
         calls::begin(&mut self.0, out, fill)
     }
 
     // Lets 1 to 60,000 ticks pass.
     pub fn tick(&mut self, ticks: u32, out: &mut [u8], fill: &mut Fill) -> Result<Answer, Refusal>
-        ensures { Outcome (box_of S.Sealer.meaning R.Rulebook.admitted R.Rulebook.ranked self.old.0) (box_of S.Sealer.meaning R.Rulebook.admitted R.Rulebook.ranked self.new.0) fill.old.len fill.new.len out.old out.new (judge_tick (box_of S.Sealer.meaning R.Rulebook.admitted R.Rulebook.ranked self.old.0) ticks) (answered result) }
+        ensures { Does ⟦<Self as Boxed>⟧.boxed self.old self.new fill.old.len fill.new.len out.old out.new (λ b. judge_tick b ticks) (answered result) }
     {
         calls::tick(&mut self.0, ticks, out, fill)
     }
@@ -79,14 +83,14 @@ impl<S: Sealer, R: Rulebook> Replica<S, R> {
         out: &mut [u8],
         fill: &mut Fill,
     ) -> Result<Answer, Refusal>
-        ensures { Outcome (box_of S.Sealer.meaning R.Rulebook.admitted R.Rulebook.ranked self.old.0) (box_of S.Sealer.meaning R.Rulebook.admitted R.Rulebook.ranked self.new.0) fill.old.len fill.new.len out.old out.new (judge_message (box_of S.Sealer.meaning R.Rulebook.admitted R.Rulebook.ranked self.old.0) message.now) (answered result) }
+        ensures { Does ⟦<Self as Boxed>⟧.boxed self.old self.new fill.old.len fill.new.len out.old out.new (λ b. judge_message b message.now) (answered result) }
     {
         messages::take(&mut self.0, message, out, fill)
     }
 
     // A leader in locking opens its turn, once a round.
     pub fn open_turn(&mut self) -> Result<Gathering, Refusal>
-        ensures { Outcome (box_of S.Sealer.meaning R.Rulebook.admitted R.Rulebook.ranked self.old.0) (box_of S.Sealer.meaning R.Rulebook.admitted R.Rulebook.ranked self.new.0) 0 0 [] [] (judge_opening (box_of S.Sealer.meaning R.Rulebook.admitted R.Rulebook.ranked self.old.0)) (opened_view result) }
+        ensures { DoesAlone ⟦<Self as Boxed>⟧.boxed self.old self.new judge_opening (opened_view result) }
     {
         opening::open_turn(&mut self.0)
     }
@@ -100,7 +104,7 @@ impl<S: Sealer, R: Rulebook> Replica<S, R> {
         out: &mut [u8],
         fill: &mut Fill,
     ) -> Result<Option<Counting>, (Refusal, Gathering)>
-        ensures ends { Outcome (box_of S.Sealer.meaning R.Rulebook.admitted R.Rulebook.ranked self.old.0) (box_of S.Sealer.meaning R.Rulebook.admitted R.Rulebook.ranked self.new.0) fill.old.len fill.new.len out.old out.new (judge_forward (box_of S.Sealer.meaning R.Rulebook.admitted R.Rulebook.ranked self.old.0) (gathering_view turn) (records_view records.old)) (forwarded_view (records_view records.new) result) }
+        ensures ends { Does ⟦<Self as Boxed>⟧.boxed self.old self.new fill.old.len fill.new.len out.old out.new (λ b. judge_forward b (gathering_view turn) (records_view records.old)) (forwarded_view (records_view records.new) result) }
         ensures back { HandedBack turn result }
         ensures kept { KeptUnlessOk records.old records.new result }
     {
@@ -114,7 +118,7 @@ impl<S: Sealer, R: Rulebook> Replica<S, R> {
         records: &mut [CommitRecord],
         message: &[u8],
     ) -> Result<(), Refusal>
-        ensures ends { Outcome (box_of S.Sealer.meaning R.Rulebook.admitted R.Rulebook.ranked self.now.0) (box_of S.Sealer.meaning R.Rulebook.admitted R.Rulebook.ranked self.now.0) 0 0 [] [] (judge_commit (box_of S.Sealer.meaning R.Rulebook.admitted R.Rulebook.ranked self.now.0) (counting_view turn.now) (records_view records.old) message.now) (taken_view (records_view records.new) result) }
+        ensures ends { DoesAlone ⟦<Self as Boxed>⟧.boxed self.now self.now (λ b. judge_commit b (counting_view turn.now) (records_view records.old) message.now) (taken_view (records_view records.new) result) }
         ensures kept { KeptUnlessOk records.old records.new result }
     {
         committing::take_commit(&self.0, turn, records, message)
@@ -128,7 +132,7 @@ impl<S: Sealer, R: Rulebook> Replica<S, R> {
         out: &mut [u8],
         fill: &mut Fill,
     ) -> Result<(), (Refusal, Counting)>
-        ensures ends { Outcome (box_of S.Sealer.meaning R.Rulebook.admitted R.Rulebook.ranked self.old.0) (box_of S.Sealer.meaning R.Rulebook.admitted R.Rulebook.ranked self.new.0) fill.old.len fill.new.len out.old out.new (judge_closing (box_of S.Sealer.meaning R.Rulebook.admitted R.Rulebook.ranked self.old.0) (counting_view turn) (records_view records.now)) (closed_view result) }
+        ensures ends { Does ⟦<Self as Boxed>⟧.boxed self.old self.new fill.old.len fill.new.len out.old out.new (λ b. judge_closing b (counting_view turn) (records_view records.now)) (closed_view result) }
         ensures back { HandedBack turn result }
     {
         closing::close(&mut self.0, turn, records, out, fill)
@@ -137,63 +141,62 @@ impl<S: Sealer, R: Rulebook> Replica<S, R> {
     // Compares locks and moves nothing: of the lock message that is held and the received one the higher, as a part of its own
     // buffer; the held one on equal rounds, the received one where none is held.
     pub fn higher_lock<'a>(&'a self, received: &'a [u8]) -> Result<&'a [u8], Refusal>
-        ensures { handed result ≡ compared (box_of S.Sealer.meaning R.Rulebook.admitted R.Rulebook.ranked self.now.0) received.now }
+        ensures { handed result ≡ compared (⟦<Self as Boxed>⟧.boxed self.now) received.now }
     {
         comparing::higher_of(&self.0, received)
     }
 
     // The height of the page that it works on.
     pub fn height(&self) -> Height
-        ensures { result.0 ≡ (box_of S.Sealer.meaning R.Rulebook.admitted R.Rulebook.ranked self.now.0).view.height }
+        ensures { result.0 ≡ (⟦<Self as Boxed>⟧.boxed self.now).view.height }
     {
         self.0.state.height
     }
 
     // The mark of the page that it entered last, or its start mark.
     pub fn last_mark(&self) -> Mark
-        ensures { result ≡ (box_of S.Sealer.meaning R.Rulebook.admitted R.Rulebook.ranked self.now.0).view.last }
+        ensures { result ≡ (⟦<Self as Boxed>⟧.boxed self.now).view.last }
     {
         self.0.state.last
     }
 
     pub fn round(&self) -> Round
-        ensures { result.0 ≡ (box_of S.Sealer.meaning R.Rulebook.admitted R.Rulebook.ranked self.now.0).view.round }
+        ensures { result.0 ≡ (⟦<Self as Boxed>⟧.boxed self.now).view.round }
     {
         self.0.state.round
     }
 
     pub fn stage(&self) -> Stage
-        ensures { result ≡ (box_of S.Sealer.meaning R.Rulebook.admitted R.Rulebook.ranked self.now.0).view.stage }
+        ensures { result ≡ (⟦<Self as Boxed>⟧.boxed self.now).view.stage }
     {
         self.0.state.stage
     }
 
     // How many ticks have passed in the stage.
     pub fn ticks(&self) -> u64
-        ensures { result ≡ (box_of S.Sealer.meaning R.Rulebook.admitted R.Rulebook.ranked self.now.0).view.ticks }
+        ensures { result ≡ (⟦<Self as Boxed>⟧.boxed self.now).view.ticks }
     {
         self.0.state.ticks
     }
 
     // In whose name it seals.
     pub fn member(&self) -> Member
-        ensures { result.0 ≡ (box_of S.Sealer.meaning R.Rulebook.admitted R.Rulebook.ranked self.now.0).sealer.number }
+        ensures { result.0 ≡ (⟦<Self as Boxed>⟧.boxed self.now).sealer.number }
     {
         self.0.sealer.member()
     }
 
     // How many seals are left.
     pub fn seals_left(&self) -> u32
-        ensures { result ≡ (box_of S.Sealer.meaning R.Rulebook.admitted R.Rulebook.ranked self.now.0).sealer.left }
+        ensures { result ≡ (⟦<Self as Boxed>⟧.boxed self.now).sealer.left }
     {
         self.0.sealer.left()
     }
 
     // Whether it leads its height and round.
     pub fn is_leader(&self) -> bool
-        ensures { result ≡ leads (box_of S.Sealer.meaning R.Rulebook.admitted R.Rulebook.ranked self.now.0) }
+        ensures { result ≡ leads (⟦<Self as Boxed>⟧.boxed self.now) }
     {
-        let state = &self.0.state;
-        self.member().0 == self.0.settings.pool.leader(state.height, state.round).0
+        self.0.leads()
     }
 }

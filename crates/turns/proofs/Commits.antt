@@ -1,7 +1,6 @@
 -- Judging a commit.
-use Rattle.std.proofs.Common.{◌≡◌, ℕ, ◌<◌, ◌≤◌, Bool, true, cond, ◌&&◌, ltb, List, length, get_or, Some, None, Ok, Err, Option, Result, sym, ap, ◌∙◌, subst, arith, w8, Fits, le-leb}
+use Rattle.std.proofs.Common.{◌≡◌, ℕ, ◌<◌, ◌≤◌, Bool, cond, ◌&&◌, List, length, get_or, Some, None, Ok, Err, Option, Result, sym, ap, ◌∙◌, subst, arith, w8, Fits, le-leb}
 use Rattle.base.specs.Numbers.{Bytes}
-use Rattle.base.specs.Pools.{members}
 use Rattle.base.specs.Seals.{kept}
 use Rattle.base.specs.Slips.{one_page}
 use Rattle.base.specs.declared.pools.Pool.{Pool}
@@ -13,13 +12,14 @@ use Rattle.message.specs.Encoding.{LawfulContent}
 use Rattle.message.specs.RoundTrip.{fields, RoundTrip}
 use Rattle.message.specs.declared.shapes.Head.{Head}
 use Rattle.protocol.specs.Judging.{sender_in, checks_of, bad_seal, on_chain}
-use Rattle.protocol.specs.Messages.{unless_bad}
+use Rattle.protocol.specs.Messages.{of_member, unless_bad}
 use Rattle.protocol.specs.Plans.{Plan, unless}
 use Rattle.protocol.specs.State.{Box}
 use Rattle.protocol.specs.Turns.{Counting, Records, enough, commit_in, judged_commit, judged_turn, judge_commit}
 use Rattle.std.proofs.ByRecursion.{All-from_get_or}
 use Rattle.turns.specs.Plans.{noting_plan, Keepable}
-use Rattle.turns.proofs.Judged.{goes}
+use Rattle.std.specs.Result.{result_and}
+use Rattle.turns.proofs.Judged.{two_asked}
 
 module _ (b : Box) (turn : Counting) (records : Records) (h : Head) (content : Content (List ℕ)) (s : Slip) (a : List ℕ) (is : content ≡ commit s a) where
   -- what is done with a good commit
@@ -49,12 +49,15 @@ module _ (b : Box) (turn : Counting) (records : Records) (h : Head) (content : C
     pub well_sealed : (x : Result (Plan Records) Refusal) → None ≡ bad_seal recognised (checks_of h content) → x ≡ paged (noting a) → x ≡ judged_commit b turn records h (commit_in content)
     well_sealed x e r = r ∙ judged None e
 
--- the tests before the message was read hold, and it was read as that: what it says decides
-module _ (b : Box) (turn : Counting) (records : Records) (message : List ℕ) (member : true ≡ ltb b.sealer.number (members b.settings.pool)) (many : true ≡ enough b records) (n : ℕ) (long : b.sealer.long ≡ n) where
-  pub commit_judged : (o : Option (Sent (List ℕ))) (x : Result (Plan Records) Refusal) → fields b.settings.pool n message ≡ o → x ≡ judged_turn b turn records o → x ≡ judge_commit b turn records message
-  commit_judged o x is same =
-      goes _ Stranger x _ member (goes _ FewRecords x _ many
-      (same ∙ ap (judged_turn b turn records) (sym is) ∙ ap (λ k. judged_turn b turn records (fields b.settings.pool k message)) (sym long)))
+-- what is asked of any call, and then what the message says, if it was read: that decides
+module _ (b : Box) (turn : Counting) (records : Records) (message : List ℕ) (n : ℕ) (long : b.sealer.long ≡ n) where
+  pub caller_asked : (r : Result Unit Refusal) → r ≡ of_member b (unless (enough b records) FewRecords (Ok tt)) → result_and r (judged_turn b turn records (fields b.settings.pool n message)) ≡ judge_commit b turn records message
+  caller_asked r is =
+      two_asked r _ _ Stranger FewRecords _ is
+      ∙ ap (λ k. of_member b (unless (enough b records) FewRecords (judged_turn b turn records (fields b.settings.pool k message)))) (sym long)
+
+  pub commit_judged : ◌≡◌ {A = Result (Unit {0}) Refusal} (Ok tt) (of_member b (unless (enough b records) FewRecords (Ok tt))) → (o : Option (Sent (List ℕ))) (x : Result (Plan Records) Refusal) → fields b.settings.pool n message ≡ o → x ≡ judged_turn b turn records o → x ≡ judge_commit b turn records message
+  commit_judged asked o x is same = same ∙ ap (judged_turn b turn records) (sym is) ∙ caller_asked (Ok tt) asked
 
 -- a seal of 1 to 80 bytes can be kept
 module _ (pool : Pool) (n k : ℕ) (long : n ≡ k) (sizes : (1 ≤ k) × (k ≤ 80)) where

@@ -1,10 +1,15 @@
 -- How putting forward ends.
-use Rattle.std.proofs.Common.{◌≡◌, ℕ, ◌≤◌, true, ◌&&◌, ltb, List, ◌++◌, length, drop, replicate, Some, None, Ok, Err, Result, sym, refl, ap, ◌∙◌, subst, leb-true}
+use Rattle.std.proofs.Common.{◌≡◌, ℕ, ◌≤◌, Bool, true, false, not, ◌&&◌, ltb, List, ◌++◌, length, drop, replicate, Some, None, Ok, Err, Result, sym, refl, ap, ◌∙◌, subst, leb-true}
+use denote.Enum.Bare.{sameb}
 use Rattle.base.specs.Pools.{members, quorum}
+use Rattle.base.specs.contracts.stages.Stage.{the_type}
+use Rattle.base.specs.declared.stages.Stage.{Stage}
+use Rattle.base.specs.declared.stages.Stage.TheVariants.{Resting, Changing, Locking, Committing, Releasing}
 use Rattle.base.specs.declared.refusals.Refusal.{Refusal}
 use Rattle.base.specs.declared.refusals.Refusal.TheVariants.{Stranger, FewRecords, TurnPast, NotYourTurn}
 use Rattle.base.specs.declared.slips.Slip.{Slip}
-use Rattle.protocol.specs.Plans.{Plan}
+use Rattle.protocol.specs.Messages.{of_member}
+use Rattle.protocol.specs.Plans.{Plan, unless}
 use Rattle.protocol.specs.Rounds.{is_locking}
 use Rattle.protocol.specs.State.{Box}
 use Rattle.protocol.specs.Turns.{Gathering, Records, Forwarded, leads, enough, still_in, agreed_of, forward_by, judge_forward}
@@ -12,20 +17,39 @@ use Rattle.seal.specs.Meaning.{Meaning}
 use Rattle.sending.specs.Sending.{Sending}
 use Rattle.holding.specs.Outcome.{Outcome}
 use Rattle.holding.proofs.Endings.{with_sealer}
+use Rattle.std.specs.Result.{result_and}
 use Rattle.turns.specs.Plans.{forward_plan, proposed_draft}
 use Rattle.turns.specs.declared.proposing.Proposal.{Proposal}
 use Rattle.turns.specs.declared.proposing.Proposal.TheVariants.{Lock, Select}
 use Rattle.turns.proofs.Ending.{certified, uncertified}
-use Rattle.turns.proofs.Judged.{goes, passed}
+use Rattle.turns.proofs.Judged.{passed, three_asked}
+
+-- the program's test for locking
+locking_as : (stage : Stage) → false ≡ not (sameb the_type stage Locking) → true ≡ is_locking stage
+locking_as Resting e = sym e
+locking_as Changing e = sym e
+locking_as Locking e = refl
+locking_as Committing e = sym e
+locking_as Releasing e = sym e
 
 module _ (b : Box) (turn : Gathering) (records : Records) where
   abbrev pub found : Result (Plan Forwarded) Refusal
   found = forward_by b records (agreed_of (quorum b.settings.pool) b.view.round b.view.latest b.view.latest)
 
-  -- the tests hold: what is due decides
-  pub forward_due : (x : Result (Plan Forwarded) Refusal) → true ≡ ltb b.sealer.number (members b.settings.pool) → true ≡ enough b records → true ≡ (still_in b turn.height turn.round && is_locking b.view.stage) → true ≡ leads b → x ≡ found → x ≡ judge_forward b turn records
-  forward_due x member many here led is =
-      goes _ Stranger x _ member (goes _ FewRecords x _ many (goes _ TurnPast x _ here (goes _ NotYourTurn x _ led is)))
+  -- one test for two refusals of one kind
+  both : {X : Type 0} (t u : Bool) (why : Refusal) (rest : Result X Refusal) → unless t why (unless u why rest) ≡ unless (t && u) why rest
+  both true u why rest = refl
+  both false u why rest = refl
+
+  -- what is asked of any turn, then the stage and the leader: what is due decides
+  pub forward_asked : (r : Result Unit Refusal) → r ≡ of_member b (unless (enough b records) FewRecords (unless (still_in b turn.height turn.round) TurnPast (Ok tt))) → result_and r (unless (is_locking b.view.stage) TurnPast (unless (leads b) NotYourTurn found)) ≡ judge_forward b turn records
+  forward_asked r is =
+      three_asked r (ltb b.sealer.number (members b.settings.pool)) (enough b records) (still_in b turn.height turn.round) Stranger FewRecords TurnPast (unless (is_locking b.view.stage) TurnPast (unless (leads b) NotYourTurn found)) is
+      ∙ ap (λ x. of_member b (unless (enough b records) FewRecords x)) (both (still_in b turn.height turn.round) (is_locking b.view.stage) TurnPast (unless (leads b) NotYourTurn found))
+
+  pub forward_due : (x : Result (Plan Forwarded) Refusal) → ◌≡◌ {A = Result (Unit {0}) Refusal} (Ok tt) (of_member b (unless (enough b records) FewRecords (unless (still_in b turn.height turn.round) TurnPast (Ok tt)))) → false ≡ not (sameb the_type b.view.stage Locking) → true ≡ leads b → x ≡ found → x ≡ judge_forward b turn records
+  forward_due x asked here led is =
+      is ∙ (λ i. unless (locking_as b.view.stage here i) TurnPast (unless (led i) NotYourTurn found)) ∙ forward_asked (Ok tt) asked
 
   -- what was not refused has a record for each member
   pub forward_enough : (p : Plan Forwarded) → Ok p ≡ judge_forward b turn records → members b.settings.pool ≤ length records

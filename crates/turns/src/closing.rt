@@ -1,18 +1,17 @@
 // Closing a turn.
 ghost use Rattle.std.specs.Prelude.{◌≡◌};
 ghost use Rattle.ballots.specs.Views.{records_view};
-ghost use Rattle.holding.specs.Outcome.{Outcome};
-ghost use Rattle.holding.specs.Views.{box_of};
+ghost use Rattle.holding.specs.Outcome.{Does};
 ghost use Rattle.protocol.specs.Turns.{judge_closing};
 ghost use Rattle.turns.specs.Plans.{judged_as, closing_plan};
 ghost use Rattle.turns.specs.Views.{counting_view, done_view, closed_view, HandedBack};
 
 use crate::certifying::{Notice, certify};
-use crate::conditions::{commits_to, is_enough, is_in, is_leader, of_members};
+use crate::conditions::{commits_to, judge_turn, of_members};
 use crate::phases::Counting;
 use ballots::commits::CommitRecord;
 use base::refusals::Refusal;
-use holding::cores::Core;
+use holding::cores::{Boxed, Core};
 use message::shapes::Head;
 use outbox::drafts::Fill;
 use rules::rulebooks::Rulebook;
@@ -25,20 +24,11 @@ fn judge_closing<S: Sealer, R: Rulebook>(
     turn: &Counting,
     records: &[CommitRecord],
 ) -> Result<(), Refusal>
-    ensures { judged_as (λ _. closing_plan (box_of S.Sealer.meaning R.Rulebook.admitted R.Rulebook.ranked core.now) (counting_view turn.now) (records_view records.now)) result ≡ judge_closing (box_of S.Sealer.meaning R.Rulebook.admitted R.Rulebook.ranked core.now) (counting_view turn.now) (records_view records.now) }
+    ensures { judged_as (λ _. closing_plan (⟦<Core<S, R> as Boxed>⟧.boxed core.now) (counting_view turn.now) (records_view records.now)) result ≡ judge_closing (⟦<Core<S, R> as Boxed>⟧.boxed core.now) (counting_view turn.now) (records_view records.now) }
 {
+    judge_turn(core, turn.height, turn.round, records)?;
     let pool = core.settings.pool;
-    let own = core.sealer.member();
-    if !pool.has(own) {
-        return Err(Refusal::Stranger);
-    }
-    if !is_enough(pool, records) {
-        return Err(Refusal::FewRecords);
-    }
-    if !is_in(&core.state, turn.height, turn.round) {
-        return Err(Refusal::TurnPast);
-    }
-    if !is_leader(pool, own, &core.state) {
+    if !core.leads() {
         return Err(Refusal::NotYourTurn);
     }
     if commits_to(pool, records, &turn.page) < pool.quorum() {
@@ -55,7 +45,7 @@ fn decide<S: Sealer, R: Rulebook>(
     out: &mut [u8],
     fill: &mut Fill,
 ) -> Result<(), Refusal>
-    ensures { Outcome (box_of S.Sealer.meaning R.Rulebook.admitted R.Rulebook.ranked core.old) (box_of S.Sealer.meaning R.Rulebook.admitted R.Rulebook.ranked core.new) fill.old.len fill.new.len out.old out.new (judge_closing (box_of S.Sealer.meaning R.Rulebook.admitted R.Rulebook.ranked core.old) (counting_view turn.now) (records_view records.now)) (done_view result) }
+    ensures { Does ⟦<Core<S, R> as Boxed>⟧.boxed core.old core.new fill.old.len fill.new.len out.old out.new (λ b. judge_closing b (counting_view turn.now) (records_view records.now)) (done_view result) }
 {
     judge_closing(core, turn, records)?;
     let pool = core.settings.pool;
@@ -82,7 +72,7 @@ pub fn close<S: Sealer, R: Rulebook>(
     out: &mut [u8],
     fill: &mut Fill,
 ) -> Result<(), (Refusal, Counting)>
-    ensures ends { Outcome (box_of S.Sealer.meaning R.Rulebook.admitted R.Rulebook.ranked core.old) (box_of S.Sealer.meaning R.Rulebook.admitted R.Rulebook.ranked core.new) fill.old.len fill.new.len out.old out.new (judge_closing (box_of S.Sealer.meaning R.Rulebook.admitted R.Rulebook.ranked core.old) (counting_view turn) (records_view records.now)) (closed_view result) }
+    ensures ends { Does ⟦<Core<S, R> as Boxed>⟧.boxed core.old core.new fill.old.len fill.new.len out.old out.new (λ b. judge_closing b (counting_view turn) (records_view records.now)) (closed_view result) }
     ensures back { HandedBack turn result }
 {
     match decide(core, &turn, records, out, fill) {

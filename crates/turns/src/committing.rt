@@ -3,8 +3,7 @@ ghost use Rattle.std.specs.Prelude.{◌≡◌, [], ◌==◌, Result as Answered,
 ghost use Rattle.ballots.specs.Views.{committed, records_view};
 ghost use Rattle.base.specs.Slips.{one_page};
 ghost use Rattle.base.specs.declared.refusals.Refusal.TheVariants.{PastHeight, LaterHeight, Stranger, TurnPast, WrongRound, OffChain, NotAdmitted, Contradiction};
-ghost use Rattle.holding.specs.Outcome.{Outcome};
-ghost use Rattle.holding.specs.Views.{box_of};
+ghost use Rattle.holding.specs.Outcome.{DoesAlone};
 ghost use Rattle.judging.specs.Views.{sent_of};
 ghost use Rattle.message.specs.Wholes.{Whole};
 ghost use Rattle.protocol.specs.Judging.{height_in, round_in, sender_in, familiar, on_chain};
@@ -15,16 +14,15 @@ ghost use Rattle.base.specs.declared.refusals.Refusal.{Refusal as Why};
 ghost use Rattle.turns.specs.Plans.{judged_as, noting_plan, Keepable};
 ghost use Rattle.turns.specs.Views.{counting_view, taken_view, KeptUnlessOk};
 
-use crate::conditions::{is_enough, is_in};
+use crate::conditions::{is_in, judge_caller};
 use crate::phases::Counting;
 use ballots::commits::{Commit, CommitRecord, note};
 use base::counters::Member;
 use base::refusals::Refusal;
 use base::seals::Seal;
 use base::slips::{Slip, one_page};
-use holding::cores::Core;
+use holding::cores::{Boxed, Core};
 use judging::contents::on_chain;
-use judging::sealing::first_bad_seal;
 use judging::speakers::familiar;
 use message::parsing::parse;
 use message::shapes::{Holds, Message};
@@ -37,13 +35,13 @@ fn judge_time<S: Sealer, R: Rulebook>(
     turn: &Counting,
     m: &Message<'_>,
 ) -> Result<(), Refusal>
-    ensures { Whole m.now → (rest : Answered (Plan Records) Why) → result_and result rest ≡ unless (nat_le core.now.state.height.0 (height_in (sent_of m.now).head)) PastHeight (unless (nat_le (height_in (sent_of m.now).head) core.now.state.height.0) LaterHeight (unless (familiar core.now.settings.pool (sent_of m.now)) Stranger (unless (still_in (box_of S.Sealer.meaning R.Rulebook.admitted R.Rulebook.ranked core.now) turn.now.height.0 turn.now.round.0) TurnPast (unless (round_in (sent_of m.now).head == turn.now.round.0) WrongRound rest)))) }
+    ensures { Whole m.now → (rest : Answered (Plan Records) Why) → result_and result rest ≡ unless (nat_le core.now.state.height.0 (height_in (sent_of m.now).head)) PastHeight (unless (nat_le (height_in (sent_of m.now).head) core.now.state.height.0) LaterHeight (unless (familiar core.now.settings.pool (sent_of m.now)) Stranger (unless (still_in (⟦<Core<S, R> as Boxed>⟧.boxed core.now) turn.now.height.0 turn.now.round.0) TurnPast (unless (round_in (sent_of m.now).head == turn.now.round.0) WrongRound rest)))) }
 {
     let state = &core.state;
-    if m.head.height.0 < state.height.0 {
+    if m.head.height < state.height {
         return Err(Refusal::PastHeight);
     }
-    if m.head.height.0 > state.height.0 {
+    if m.head.height > state.height {
         return Err(Refusal::LaterHeight);
     }
     if !familiar(core.settings.pool, m) {
@@ -52,7 +50,7 @@ fn judge_time<S: Sealer, R: Rulebook>(
     if !is_in(state, turn.height, turn.round) {
         return Err(Refusal::TurnPast);
     }
-    if m.head.round.0 != turn.round.0 {
+    if m.head.round != turn.round {
         return Err(Refusal::WrongRound);
     }
     Ok(())
@@ -84,19 +82,15 @@ fn judge_content<S: Sealer, R: Rulebook>(
     turn: &Counting,
     m: &Message<'_>,
 ) -> Result<Commit, Refusal>
-    ensures { Whole m.now → Keepable (commit_in (sent_of m.now).content) → (records : Records) → judged_as (λ c. noting_plan (box_of S.Sealer.meaning R.Rulebook.admitted R.Rulebook.ranked core.now) turn.now.page records (sender_in m.now.head) (committed c)) result ≡ judged_commit (box_of S.Sealer.meaning R.Rulebook.admitted R.Rulebook.ranked core.now) (counting_view turn.now) records m.now.head (commit_in (sent_of m.now).content) }
+    ensures { Whole m.now → Keepable (commit_in (sent_of m.now).content) → (records : Records) → judged_as (λ c. noting_plan (⟦<Core<S, R> as Boxed>⟧.boxed core.now) turn.now.page records (sender_in m.now.head) (committed c)) result ≡ judged_commit (⟦<Core<S, R> as Boxed>⟧.boxed core.now) (counting_view turn.now) records m.now.head (commit_in (sent_of m.now).content) }
 {
     let Holds::Commit { slip, seal } = &m.holds else {
         return Err(Refusal::OutOfStage);
     };
-    if let Some(why) = first_bad_seal(&core.sealer, m) {
-        return Err(why);
-    }
+    core.judge_seals(m)?;
     judge_page(core, turn, slip)?;
-    match Seal::new(seal.bytes) {
-        Some(seal) => Ok(Commit { page: *slip, seal }),
-        None => Err(Refusal::Misshapen),
-    }
+    let seal = Seal::new(seal.bytes).ok_or(Refusal::Misshapen)?;
+    Ok(Commit { page: *slip, seal })
 }
 
 // A member's commit.
@@ -113,16 +107,10 @@ fn judge_commit<S: Sealer, R: Rulebook>(
     records: &[CommitRecord],
     message: &[u8],
 ) -> Result<Received, Refusal>
-    ensures { judged_as (λ x. noting_plan (box_of S.Sealer.meaning R.Rulebook.admitted R.Rulebook.ranked core.now) turn.now.page (records_view records.now) x.member.0 (committed x.commit)) result ≡ judge_commit (box_of S.Sealer.meaning R.Rulebook.admitted R.Rulebook.ranked core.now) (counting_view turn.now) (records_view records.now) message.now }
+    ensures { judged_as (λ x. noting_plan (⟦<Core<S, R> as Boxed>⟧.boxed core.now) turn.now.page (records_view records.now) x.member.0 (committed x.commit)) result ≡ judge_commit (⟦<Core<S, R> as Boxed>⟧.boxed core.now) (counting_view turn.now) (records_view records.now) message.now }
 {
-    let pool = core.settings.pool;
-    if !pool.has(core.sealer.member()) {
-        return Err(Refusal::Stranger);
-    }
-    if !is_enough(pool, records) {
-        return Err(Refusal::FewRecords);
-    }
-    let m = parse(message, pool, S::seal_length())?;
+    judge_caller(core, records)?;
+    let m = parse(message, core.settings.pool, S::seal_length())?;
     judge_time(core, turn, &m)?;
     let commit = judge_content(core, turn, &m)?;
     Ok(Received {
@@ -138,7 +126,7 @@ pub fn take_commit<S: Sealer, R: Rulebook>(
     records: &mut [CommitRecord],
     message: &[u8],
 ) -> Result<(), Refusal>
-    ensures ends { Outcome (box_of S.Sealer.meaning R.Rulebook.admitted R.Rulebook.ranked core.now) (box_of S.Sealer.meaning R.Rulebook.admitted R.Rulebook.ranked core.now) 0 0 [] [] (judge_commit (box_of S.Sealer.meaning R.Rulebook.admitted R.Rulebook.ranked core.now) (counting_view turn.now) (records_view records.old) message.now) (taken_view (records_view records.new) result) }
+    ensures ends { DoesAlone ⟦<Core<S, R> as Boxed>⟧.boxed core.now core.now (λ b. judge_commit b (counting_view turn.now) (records_view records.old) message.now) (taken_view (records_view records.new) result) }
     ensures kept { KeptUnlessOk records.old records.new result }
 {
     let received = judge_commit(core, turn, records, message)?;

@@ -1,40 +1,29 @@
 // What is asked before a turn goes on.
 ghost use Rattle.std.specs.Prelude.{◌≡◌, ◌&&◌, length, take, ◌==◌, nat_le};
 ghost use Rattle.ballots.specs.Views.{records_view};
-ghost use Rattle.base.specs.Pools.{members, leader_of};
-ghost use Rattle.protocol.specs.Rounds.{is_locking};
+ghost use Rattle.base.specs.Pools.{members};
+ghost use Rattle.base.specs.declared.refusals.Refusal.TheVariants.{FewRecords, TurnPast};
+ghost use Rattle.protocol.specs.Messages.{of_member};
+ghost use Rattle.protocol.specs.Plans.{unless};
 ghost use Rattle.protocol.specs.State.{tally};
-ghost use Rattle.protocol.specs.Turns.{commits_to};
+ghost use Rattle.protocol.specs.Turns.{commits_to, enough, still_in};
 
 use ballots::commits::CommitRecord;
 use ballots::tallies::count;
-use base::counters::{Height, Member, Round};
+use base::counters::{Height, Round};
 use base::pools::Pool;
+use base::refusals::Refusal;
 use base::slips::Slip;
-use base::stages::Stage;
+use holding::cores::{Boxed, Core};
 use holding::states::State;
-
-// Whether the member leads the replica's height and round.
-pub(crate) fn is_leader(pool: Pool, own: Member, state: &State) -> bool
-    ensures { result ≡ (own.0 == leader_of pool state.now.height state.now.round) }
-{
-    own.0 == pool.leader(state.height, state.round).0
-}
-
-pub(crate) fn is_locking(stage: Stage) -> bool
-    ensures { result ≡ is_locking stage }
-{
-    match stage {
-        Stage::Locking => true,
-        _ => false,
-    }
-}
+use rules::rulebooks::Rulebook;
+use seal::sealers::Sealer;
 
 // Whether the replica is in that height and round.
 pub(crate) fn is_in(state: &State, height: Height, round: Round) -> bool
     ensures { result ≡ (state.now.height.0 == height.0 && state.now.round.0 == round.0) }
 {
-    state.height.0 == height.0 && state.round.0 == round.0
+    state.height == height && state.round == round
 }
 
 // Whether there is a record for each member.
@@ -44,16 +33,43 @@ pub(crate) fn is_enough(pool: Pool, records: &[CommitRecord]) -> bool
     pool.size() <= records.len()
 }
 
+// What is asked of any call on a turn: the caller is a member, and there is a record for each.
+pub(crate) fn judge_caller<S: Sealer, R: Rulebook>(
+    core: &Core<S, R>,
+    records: &[CommitRecord],
+) -> Result<(), Refusal>
+    ensures { let b = ⟦<Core<S, R> as Boxed>⟧.boxed core.now in result ≡ of_member b (unless (enough b (records_view records.now)) FewRecords (Ok tt)) }
+{
+    if !core.is_member() {
+        return Err(Refusal::Stranger);
+    }
+    if !is_enough(core.settings.pool, records) {
+        return Err(Refusal::FewRecords);
+    }
+    Ok(())
+}
+
+// What is asked of a call that moves a turn on: besides, the replica is still in the turn's height and round.
+pub(crate) fn judge_turn<S: Sealer, R: Rulebook>(
+    core: &Core<S, R>,
+    height: Height,
+    round: Round,
+    records: &[CommitRecord],
+) -> Result<(), Refusal>
+    ensures { let b = ⟦<Core<S, R> as Boxed>⟧.boxed core.now in result ≡ of_member b (unless (enough b (records_view records.now)) FewRecords (unless (still_in b height.0 round.0) TurnPast (Ok tt))) }
+{
+    judge_caller(core, records)?;
+    if !is_in(&core.state, height, round) {
+        return Err(Refusal::TurnPast);
+    }
+    Ok(())
+}
+
 // The records of the pool's members.
 pub(crate) fn of_members(pool: Pool, records: &[CommitRecord]) -> &[CommitRecord]
     ensures { result.now ≡ take (members pool) records.now }
 {
-    let n = pool.size();
-    if n < records.len() {
-        &records[0..n]
-    } else {
-        records
-    }
+    &records[..pool.size().min(records.len())]
 }
 
 // How many members' records read as the page.

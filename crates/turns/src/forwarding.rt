@@ -1,18 +1,18 @@
 // Putting a turn forward.
 ghost use Rattle.std.specs.Prelude.{◌≡◌};
 ghost use Rattle.ballots.specs.Views.{records_view};
-ghost use Rattle.holding.specs.Outcome.{Outcome};
-ghost use Rattle.holding.specs.Views.{box_of};
+ghost use Rattle.holding.specs.Outcome.{Does};
 ghost use Rattle.protocol.specs.Turns.{judge_forward};
 ghost use Rattle.turns.specs.Plans.{judged_as, forward_plan};
 ghost use Rattle.turns.specs.Views.{gathering_view, forward_view, forwarded_view, HandedBack, KeptUnlessOk};
 
-use crate::conditions::{is_enough, is_in, is_leader, is_locking};
+use crate::conditions::judge_turn;
 use crate::phases::{Counting, Gathering};
 use crate::proposing::{Proposal, propose, send_proposal};
 use ballots::commits::{CommitRecord, blank};
 use base::refusals::Refusal;
-use holding::cores::Core;
+use base::stages::Stage;
+use holding::cores::{Boxed, Core};
 use outbox::drafts::Fill;
 use rules::rulebooks::Rulebook;
 use seal::sealers::Sealer;
@@ -23,20 +23,13 @@ fn judge_forward<S: Sealer, R: Rulebook>(
     turn: &Gathering,
     records: &[CommitRecord],
 ) -> Result<Proposal, Refusal>
-    ensures { judged_as (forward_plan (box_of S.Sealer.meaning R.Rulebook.admitted R.Rulebook.ranked core.now) (records_view records.now)) result ≡ judge_forward (box_of S.Sealer.meaning R.Rulebook.admitted R.Rulebook.ranked core.now) (gathering_view turn.now) (records_view records.now) }
+    ensures { judged_as (forward_plan (⟦<Core<S, R> as Boxed>⟧.boxed core.now) (records_view records.now)) result ≡ judge_forward (⟦<Core<S, R> as Boxed>⟧.boxed core.now) (gathering_view turn.now) (records_view records.now) }
 {
-    let pool = core.settings.pool;
-    let own = core.sealer.member();
-    if !pool.has(own) {
-        return Err(Refusal::Stranger);
-    }
-    if !is_enough(pool, records) {
-        return Err(Refusal::FewRecords);
-    }
-    if !is_in(&core.state, turn.height, turn.round) || !is_locking(core.state.stage) {
+    judge_turn(core, turn.height, turn.round, records)?;
+    if core.state.stage != Stage::Locking {
         return Err(Refusal::TurnPast);
     }
-    if !is_leader(pool, own, &core.state) {
+    if !core.leads() {
         return Err(Refusal::NotYourTurn);
     }
     propose(core)
@@ -50,7 +43,7 @@ fn forward<S: Sealer, R: Rulebook>(
     out: &mut [u8],
     fill: &mut Fill,
 ) -> Result<Option<Counting>, Refusal>
-    ensures ends { Outcome (box_of S.Sealer.meaning R.Rulebook.admitted R.Rulebook.ranked core.old) (box_of S.Sealer.meaning R.Rulebook.admitted R.Rulebook.ranked core.new) fill.old.len fill.new.len out.old out.new (judge_forward (box_of S.Sealer.meaning R.Rulebook.admitted R.Rulebook.ranked core.old) (gathering_view turn.now) (records_view records.old)) (forward_view (records_view records.new) result) }
+    ensures ends { Does ⟦<Core<S, R> as Boxed>⟧.boxed core.old core.new fill.old.len fill.new.len out.old out.new (λ b. judge_forward b (gathering_view turn.now) (records_view records.old)) (forward_view (records_view records.new) result) }
     ensures kept { KeptUnlessOk records.old records.new result }
 {
     let pool = core.settings.pool;
@@ -78,7 +71,7 @@ pub fn put_forward<S: Sealer, R: Rulebook>(
     out: &mut [u8],
     fill: &mut Fill,
 ) -> Result<Option<Counting>, (Refusal, Gathering)>
-    ensures ends { Outcome (box_of S.Sealer.meaning R.Rulebook.admitted R.Rulebook.ranked core.old) (box_of S.Sealer.meaning R.Rulebook.admitted R.Rulebook.ranked core.new) fill.old.len fill.new.len out.old out.new (judge_forward (box_of S.Sealer.meaning R.Rulebook.admitted R.Rulebook.ranked core.old) (gathering_view turn) (records_view records.old)) (forwarded_view (records_view records.new) result) }
+    ensures ends { Does ⟦<Core<S, R> as Boxed>⟧.boxed core.old core.new fill.old.len fill.new.len out.old out.new (λ b. judge_forward b (gathering_view turn) (records_view records.old)) (forwarded_view (records_view records.new) result) }
     ensures back { HandedBack turn result }
     ensures kept { KeptUnlessOk records.old records.new result }
 {

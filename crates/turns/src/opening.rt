@@ -1,28 +1,24 @@
 // Opening a turn.
 ghost use Rattle.std.specs.Prelude.{[]};
-ghost use Rattle.holding.specs.Outcome.{Outcome};
-ghost use Rattle.holding.specs.Views.{box_of};
+ghost use Rattle.holding.specs.Outcome.{DoesAlone};
 ghost use Rattle.protocol.specs.Turns.{judge_opening};
 ghost use Rattle.turns.specs.Views.{opened_view};
 
-use crate::conditions::{is_leader, is_locking};
 use crate::phases::Gathering;
 use base::refusals::Refusal;
-use holding::cores::Core;
+use base::stages::Stage;
+use holding::cores::{Boxed, Core};
 use rules::rulebooks::Rulebook;
 use seal::sealers::Sealer;
 
 // Opens the turn of the leader, in locking, once a round.
 pub fn open_turn<S: Sealer, R: Rulebook>(core: &mut Core<S, R>) -> Result<Gathering, Refusal>
-    ensures { Outcome (box_of S.Sealer.meaning R.Rulebook.admitted R.Rulebook.ranked core.old) (box_of S.Sealer.meaning R.Rulebook.admitted R.Rulebook.ranked core.new) 0 0 [] [] (judge_opening (box_of S.Sealer.meaning R.Rulebook.admitted R.Rulebook.ranked core.old)) (opened_view result) }
+    ensures { DoesAlone ⟦<Core<S, R> as Boxed>⟧.boxed core.old core.new judge_opening (opened_view result) }
 {
-    let pool = core.settings.pool;
-    let own = core.sealer.member();
-    if !pool.has(own) {
+    if !core.is_member() {
         return Err(Refusal::Stranger);
     }
-    let state = &core.state;
-    if !is_leader(pool, own, state) || !is_locking(state.stage) || state.turned {
+    if !core.leads() || core.state.stage != Stage::Locking || core.state.turned {
         return Err(Refusal::NotYourTurn);
     }
     core.state.turned = true;

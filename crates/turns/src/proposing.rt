@@ -2,7 +2,7 @@
 ghost use Rattle.std.specs.Prelude.{◌≡◌, ◌&&◌, ◌||◌, ◌==◌, nat_le};
 ghost use Rattle.ballots.specs.Views.{statements_view};
 ghost use Rattle.base.specs.Pools.{members, quorum};
-ghost use Rattle.holding.specs.Views.{box_of, view_of};
+ghost use Rattle.holding.specs.Views.{view_of};
 ghost use Rattle.protocol.specs.Rounds.{of_round};
 ghost use Rattle.protocol.specs.State.{tally};
 ghost use Rattle.protocol.specs.Turns.{Records, agreed_of, forward_by};
@@ -15,7 +15,7 @@ use base::pools::Pool;
 use base::refusals::Refusal;
 use base::seals::Seal;
 use base::slips::Slip;
-use holding::cores::Core;
+use holding::cores::{Boxed, Core};
 use holding::settings::Settings;
 use holding::states::State;
 use message::shapes::Head;
@@ -33,16 +33,16 @@ pub(crate) enum Proposal {
 
 // Whether a select is due: a quorum is in the round, and either the whole pool is or g ticks passed.
 fn select_due(settings: &Settings, state: &State) -> bool
-    ensures { result ≡ (nat_le (quorum settings.now.pool) (tally (of_round state.now.round.0) (statements_view (members settings.now.pool) state.now.statements)) && (tally (of_round state.now.round.0) (statements_view (members settings.now.pool) state.now.statements) == members settings.now.pool || nat_le settings.now.g state.now.ticks)) }
+    ensures { result ≡ (nat_le (quorum settings.now.pool) (tally (of_round state.now.round.0) (statements_view (members settings.now.pool) state.now.statements)) && (tally (of_round state.now.round.0) (statements_view (members settings.now.pool) state.now.statements) == members settings.now.pool || nat_le settings.now.times.g state.now.ticks)) }
 {
     let pool = settings.pool;
     let here = in_round(state.statements.of(pool), state.round);
-    pool.quorum() <= here && (here == pool.size() || settings.g as u64 <= state.ticks)
+    pool.quorum() <= here && (here == pool.size() || settings.times.g as u64 <= state.ticks)
 }
 
 // What is due in the round: a lock if a quorum of latest statements names one page, else a select if it is due.
 pub(crate) fn propose<S: Sealer, R: Rulebook>(core: &Core<S, R>) -> Result<Proposal, Refusal>
-    ensures { (records : Records) → judged_as (forward_plan (box_of S.Sealer.meaning R.Rulebook.admitted R.Rulebook.ranked core.now) records) result ≡ forward_by (box_of S.Sealer.meaning R.Rulebook.admitted R.Rulebook.ranked core.now) records (agreed_of (quorum core.now.settings.pool) core.now.state.round.0 (statements_view (members core.now.settings.pool) core.now.state.statements) (statements_view (members core.now.settings.pool) core.now.state.statements)) }
+    ensures { (records : Records) → judged_as (forward_plan (⟦<Core<S, R> as Boxed>⟧.boxed core.now) records) result ≡ forward_by (⟦<Core<S, R> as Boxed>⟧.boxed core.now) records (agreed_of (quorum core.now.settings.pool) core.now.state.round.0 (statements_view (members core.now.settings.pool) core.now.state.statements) (statements_view (members core.now.settings.pool) core.now.state.statements)) }
 {
     let pool = core.settings.pool;
     let state = &core.state;

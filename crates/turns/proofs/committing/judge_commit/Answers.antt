@@ -1,14 +1,19 @@
-use Rattle.std.proofs.Common.{ltb, Some, None, Ok, Err, sym, ap, ◌∙◌}
+use Rattle.std.proofs.Common.{Some, None, Ok, Err, sym, refl, ap, ◌∙◌}
 use Rattle.ballots.specs.Views.{records_view}
-use Rattle.base.specs.Pools.{members}
 use Rattle.holding.specs.Views.{box_of}
 use Rattle.judging.proofs.Fields.{read_fields}
 use Rattle.judging.specs.Views.{sent_of}
 use Rattle.protocol.specs.Turns.{commit_in, judged_commit}
 use Rattle.std.proofs.lemmas.Result.{err_from_is_err_and}
 use Rattle.turns.specs.Views.{counting_view}
-use Rattle.turns.proofs.Commits.{commit_judged, keeps_read}
+use Rattle.turns.proofs.Commits.{caller_asked, commit_judged, keeps_read}
 use Rattle.turns.proofs.committing.judge_commit.Goals as goal
+
+pub returns-in_err-judge_caller : goal.returns-in_err-judge_caller
+returns-in_err-judge_caller g c =
+    let b = box_of g.S.Sealer.meaning g.R.Rulebook.admitted g.R.Rulebook.ranked c.args.core.now
+    in let p = err_from_is_err_and c.from_residual.result c.from_residual.ensures.1
+    in rw (p.1, p.2) (caller_asked b (counting_view c.args.turn.now) (records_view c.args.records.now) c.args.message.now _ refl _ c.in_err-judge_caller.ensures)
 
 pub returns-in_err-m : goal.returns-in_err-m
 returns-in_err-m g c =
@@ -17,9 +22,9 @@ returns-in_err-m g c =
     in let n = c.seal_length.result
     in let message = c.args.message.now
     in let read = read_fields pool n message (Err c.in_err-m.field-0.0) c.in_err-m.ensures.reads
-    in let p = err_from_is_err_and c.from_residual.result c.from_residual.ensures.1
+    in let p = err_from_is_err_and c.from_residual-in_err-m.result c.from_residual-in_err-m.ensures.1
     in rw (p.1, p.2) (commit_judged (box_of g.S.Sealer.meaning g.R.Rulebook.admitted g.R.Rulebook.ranked core) (counting_view c.args.turn.now) (records_view c.args.records.now) message
-    (c.if-not-has.ensures ∙ ap (λ k. ltb k (members pool)) c.member.ensures) c.if-not-is_enough.ensures n (g.met.S.Sealer.long core.sealer ∙ sym c.seal_length.ensures)
+    n (g.met.S.Sealer.long core.sealer ∙ sym c.seal_length.ensures) c.in_ok-judge_caller.ensures
     None _ read.0 (ap Err read.1))
 
 pub returns-in_err-judge_time : goal.returns-in_err-judge_time
@@ -34,7 +39,7 @@ returns-in_err-judge_time g c =
     in let records = records_view c.args.records.now
     in let p = err_from_is_err_and c.from_residual-in_err-judge_time.result c.from_residual-in_err-judge_time.ensures.1
     in rw (p.1, p.2) (commit_judged b turn records message
-    (c.if-not-has.ensures ∙ ap (λ k. ltb k (members pool)) c.member.ensures) c.if-not-is_enough.ensures n (g.met.S.Sealer.long core.sealer ∙ sym c.seal_length.ensures)
+    n (g.met.S.Sealer.long core.sealer ∙ sym c.seal_length.ensures) c.in_ok-judge_caller.ensures
     (Some (sent_of m)) _ (read_fields pool n message (Ok m) c.in_ok-m.ensures.reads)
     (c.in_err-judge_time.ensures c.in_ok-m.ensures.wholes (judged_commit b turn records m.head (commit_in (sent_of m).content))))
 
@@ -53,7 +58,7 @@ returns-in_err-commit g c =
     in let keeps = keeps_read pool n g.S.Checker.seal_long c.seal_length.ensures g.met.S.Checker.sizes message (sent_of m) c.in_ok-m.ensures.law c.type_inv.message is
     in let p = err_from_is_err_and c.from_residual-in_err-commit.result c.from_residual-in_err-commit.ensures.1
     in rw (p.1, p.2) (commit_judged b turn records message
-    (c.if-not-has.ensures ∙ ap (λ k. ltb k (members pool)) c.member.ensures) c.if-not-is_enough.ensures n (g.met.S.Sealer.long core.sealer ∙ sym c.seal_length.ensures)
+    n (g.met.S.Sealer.long core.sealer ∙ sym c.seal_length.ensures) c.in_ok-judge_caller.ensures
     (Some (sent_of m)) _ is
     (c.in_err-commit.ensures whole keeps records ∙ c.in_ok-judge_time.ensures whole (judged_commit b turn records m.head (commit_in (sent_of m).content))))
 
@@ -71,6 +76,6 @@ returns g c =
     in let whole = c.in_ok-m.ensures.wholes
     in let keeps = keeps_read pool n g.S.Checker.seal_long c.seal_length.ensures g.met.S.Checker.sizes message (sent_of m) c.in_ok-m.ensures.law c.type_inv.message is
     in commit_judged b turn records message
-    (c.if-not-has.ensures ∙ ap (λ k. ltb k (members pool)) c.member.ensures) c.if-not-is_enough.ensures n (g.met.S.Sealer.long core.sealer ∙ sym c.seal_length.ensures)
+    n (g.met.S.Sealer.long core.sealer ∙ sym c.seal_length.ensures) c.in_ok-judge_caller.ensures
     (Some (sent_of m)) _ is
     (c.in_ok-commit.ensures whole keeps records ∙ c.in_ok-judge_time.ensures whole (judged_commit b turn records m.head (commit_in (sent_of m).content)))

@@ -1,19 +1,18 @@
-use Rattle.std.proofs.Common.{◌&&◌, eqb, ltb, ap, ◌∙◌}
 use Rattle.ballots.specs.Views.{records_view}
-use Rattle.base.specs.Pools.{members, leader_of}
 use Rattle.holding.specs.Views.{box_of}
+use Rattle.std.proofs.lemmas.Result.{err_from_is_err_and}
 use Rattle.turns.specs.Views.{gathering_view}
-use Rattle.turns.proofs.Forwards.{forward_due}
+use Rattle.turns.proofs.Forwards.{forward_asked, forward_due}
 use Rattle.turns.proofs.forwarding.judge_forward.Goals as goal
+
+pub returns-in_err-judge_turn : goal.returns-in_err-judge_turn
+returns-in_err-judge_turn g c =
+    let b = box_of g.S.Sealer.meaning g.R.Rulebook.admitted g.R.Rulebook.ranked c.args.core.now
+    in let p = err_from_is_err_and c.from_residual.result c.from_residual.ensures.1
+    in rw (p.1, p.2) (forward_asked b (gathering_view c.args.turn.now) (records_view c.args.records.now) _ c.in_err-judge_turn.ensures)
 
 pub returns : goal.returns
 returns g c =
-    let core = c.args.core.now
-    in let pool = core.settings.pool
-    in let own = c.member-own.ensures
-    in forward_due (box_of g.S.Sealer.meaning g.R.Rulebook.admitted g.R.Rulebook.ranked core) (gathering_view c.args.turn.now) (records_view c.args.records.now) _
-    (c.if-not-has.ensures ∙ ap (λ n. ltb n (members pool)) own)
-    c.if-not-is_enough.ensures
-    (λ i. c.if-not-is_in.ensures i && c.if-not-is_locking.ensures i)
-    (c.if-not-is_leader.ensures ∙ ap (λ n. eqb n (leader_of pool core.state.height core.state.round)) own)
-    (c.propose.ensures (records_view c.args.records.now))
+    let b = box_of g.S.Sealer.meaning g.R.Rulebook.admitted g.R.Rulebook.ranked c.args.core.now
+    in let records = records_view c.args.records.now
+    in forward_due b (gathering_view c.args.turn.now) records _ c.in_ok-judge_turn.ensures c.if-ne.ensures c.if-not-leads.ensures (c.propose.ensures records)
