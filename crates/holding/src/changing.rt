@@ -14,7 +14,7 @@ ghost use Rattle.holding.specs.Placing.{place_for, place_for_page};
 ghost use Rattle.holding.specs.Views.{view_of};
 
 use crate::states::State;
-use ballots::latest::{Latest, highest_called};
+use ballots::latest::{Called, Latest};
 use base::counters::{Member, Round};
 use base::pools::Pool;
 use base::slips::{Slip, same_page};
@@ -36,13 +36,12 @@ impl State {
     pub fn called(&self, pool: Pool) -> Option<Round>
         ensures { (s : Settings) → s.pool ≡ pool → option_map round_number result ≡ highest_round (called_for s (view_of pool self.now)) (view_of pool self.now).latest }
     {
-        let resting = self.stage == Stage::Resting;
-        highest_called(
-            self.statements.of(pool),
-            self.round,
-            resting,
-            pool.tolerance(),
-        )
+        let called = Called {
+            own: self.round,
+            resting: self.stage == Stage::Resting,
+            tolerance: pool.tolerance(),
+        };
+        called.highest(self.statements.of(pool))
     }
 
     // If changing, goes on to locking where a quorum is in the round.

@@ -17,10 +17,10 @@ use Rattle.holding.specs.declared.states.State.{State}
 use Rattle.protocol.specs.Plans.{Draft}
 use Rattle.protocol.specs.Rounds.{of_round, head_for}
 use Rattle.protocol.specs.Turns.{names_in, cand_of, rchg_of, votes_from}
-use Rattle.sending.specs.Certifying.{kind_of, sort_of, word_of}
+use Rattle.base.specs.Certified.{kind_of, sort_of, word_of}
 use Rattle.sending.specs.Drafts.{cert_for}
-use Rattle.sending.specs.declared.sends.Certified.{Certified}
-use Rattle.sending.specs.declared.sends.Certified.TheVariants as certified
+use Rattle.base.specs.declared.certified.Certified.{Certified}
+use Rattle.base.specs.declared.certified.Certified.TheVariants as certified
 use Rattle.turns.specs.Plans.{proposed_draft}
 use Rattle.turns.specs.declared.proposing.Proposal.{Proposal}
 use Rattle.turns.specs.declared.proposing.Proposal.TheVariants.{Lock, Select}

@@ -10,13 +10,13 @@ use crate::certifying::{Notice, certify};
 use crate::conditions::{commits_to, judge_turn, of_members};
 use crate::phases::Counting;
 use ballots::commits::CommitRecord;
+use base::certified::Certified;
 use base::refusals::Refusal;
 use holding::cores::{Boxed, Core};
 use message::shapes::Head;
 use outbox::drafts::Fill;
 use rules::rulebooks::Rulebook;
 use seal::sealers::Sealer;
-use sending::sends::Certified;
 
 // Whether the turn can be closed: the replica still leads its round, and a quorum committed to its page.
 fn judge_closing<S: Sealer, R: Rulebook>(

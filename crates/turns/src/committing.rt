@@ -24,7 +24,6 @@ use base::slips::{Slip, one_page};
 use holding::cores::{Boxed, Core};
 use judging::contents::on_chain;
 use judging::speakers::familiar;
-use message::parsing::parse;
 use message::shapes::{Holds, Message};
 use rules::rulebooks::Rulebook;
 use seal::sealers::Sealer;
@@ -110,7 +109,7 @@ fn judge_commit<S: Sealer, R: Rulebook>(
     ensures { judged_as (λ x. noting_plan (⟦<Core<S, R> as Boxed>⟧.boxed core.now) turn.now.page (records_view records.now) x.member.0 (committed x.commit)) result ≡ judge_commit (⟦<Core<S, R> as Boxed>⟧.boxed core.now) (counting_view turn.now) (records_view records.now) message.now }
 {
     judge_caller(core, records)?;
-    let m = parse(message, core.settings.pool, S::seal_length())?;
+    let m = core.format().parse(message)?;
     judge_time(core, turn, &m)?;
     let commit = judge_content(core, turn, &m)?;
     Ok(Received {

@@ -11,6 +11,7 @@ ghost use Rattle.turns.specs.Plans.{judged_as, forward_plan, proposed_draft};
 
 use crate::certifying::{Notice, certify};
 use ballots::latest::{Asked, agreed, in_round};
+use base::certified::Certified;
 use base::pools::Pool;
 use base::refusals::Refusal;
 use base::seals::Seal;
@@ -22,7 +23,6 @@ use message::shapes::Head;
 use outbox::drafts::Fill;
 use rules::rulebooks::Rulebook;
 use seal::sealers::Sealer;
-use sending::sends::Certified;
 
 // A lock on the page that a quorum names, or a select of the top.
 #[derive(Clone, Copy)]

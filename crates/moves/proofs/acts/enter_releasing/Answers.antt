@@ -16,7 +16,7 @@ returns-in_err-send_release g c =
     let b = box_of g.S.Sealer.meaning g.R.Rulebook.admitted g.R.Rulebook.ranked c.args.core.now
     in let p = err_from_is_err_and c.from_residual.result c.from_residual.ensures.1
     in rw (p.1, p.2) (releases_not b _ _ _ _ _ (view_of c.args.core.now.settings.pool c.args.next.now) (held_view c.in-Some.held) (ap (option_map held_view) c.in-Some.is) c.member.result.0 _ (g.S.Sealer.meaning c.send_release.new.sealer) c.member.ensures c.as_slice.ensures.bytes c.in_err-send_release.field-0.0
-    (c.in_err-send_release.ensures (short_lock _ c.as_slice.ensures.small)) refl)
+    (c.in_err-send_release.ensures.sent (short_lock _ c.as_slice.ensures.small)) refl)
 
 pub returns : goal.returns
 returns g c =
@@ -28,7 +28,7 @@ returns g c =
           let m = g.S.Sealer.meaning w.send_release.new.sealer
           in rw (w.core-is, w.out-is, w.fill-is)
           (releases b _ _ _ _ _ v (held_view w.in-Some.held) (ap (option_map held_view) w.in-Some.is) w.member.result.0 _ m w.member.ensures w.as_slice.ensures.bytes (seal_bytes w.in_ok-send_release.field-0 ∷ [])
-          (w.in_ok-send_release.ensures (short_lock _ w.as_slice.ensures.small)) (ap (with_sealer b m) (c.released-core.ensures pool)))
+          (w.in_ok-send_release.ensures.sent (short_lock _ w.as_slice.ensures.small)) (ap (with_sealer b m) (c.released-core.ensures pool)))
       | in_default w ↦
           rw (w.core-is, w.out-is, w.fill-is)
           (ends_quiet b _ _ _ _ _ refl refl (releasing b taken v) (ap (λ h. release_of b.sealer.number v (option_map held_view h)) w.in_default.is) (ap (with_sealer b b.sealer) (c.released-core.ensures pool)))

@@ -7,7 +7,7 @@ use Rattle.holding.proofs.states.State.called.Goals as goal
 
 pub returns : goal.returns
 returns c s same =
-    let resting = resting_as _ _ c.eq-resting.ensures
+    let resting = resting_as _ _ c.eq.ensures
     in let few = c.tolerance.ensures ∙ ap tolerance (sym same)
-    in c.highest_called.ensures
+    in c.highest.ensures
     ∙ (λ i. highest_round (calls_for c.args.self.now.round.0 (resting i) (few i) (c.of.ensures.places i)) (c.of.ensures.places i))
