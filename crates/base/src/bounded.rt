@@ -27,6 +27,7 @@ impl<T: Copy, const N: usize> Clone for Bounded<T, N> {
 impl<T: Copy, const N: usize> Bounded<T, N> {
     ghost use Rattle.std.specs.Prelude.{◌≡◌, ◌≤◌, ◌<◌, ◌+◌, ◌∷◌, ◌++◌, [], length, cond, Some, None, nat_le, nat_lt, take};
     ghost use Rattle.std.specs.Option.{option_map};
+    ghost use Rattle.std.specs.Fn.{FnOnceReturnsAtMut};
     ghost use Rattle.base.specs.Bounded.{items};
 
     // No value yet; `blank` stands in every slot.
@@ -89,14 +90,8 @@ impl<T: Copy, const N: usize> Bounded<T, N> {
         self.len = end;
         true
     }
-}
 
-impl<T: Copy, const N: usize> Bounded<T, N> {
-    ghost use Rattle.std.specs.Prelude.{◌≡◌};
-    ghost use Rattle.std.specs.Fn.{FnOnceReturnsAtMut};
-    ghost use Rattle.base.specs.Bounded.{items};
-
-    // Lends the values to a change.
+    // Lends the values to a change, which may alter them in place.
     pub fn change<F: FnOnce(&mut [T])>(&mut self, change: F)
         requires { F.IsAlwaysCallable change }
         ensures { FnOnceReturnsAtMut F.FnOnce change (items self.old) tt (items self.new) }
