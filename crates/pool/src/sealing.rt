@@ -106,7 +106,11 @@ fn refused(rt: &HostRuntime, why: Refusal) -> anyhow::Result<()> {
 }
 
 // Member 2 makes a seal, at which the others look, and then seals until its sealer is worn.
-fn with_kind<K: SealKind, F: Fn(u8) -> Keys>(rt: &HostRuntime, keys: F, left: u32) -> anyhow::Result<()>
+fn with_kind<K: SealKind, F: Fn(u8) -> Keys>(
+    rt: &HostRuntime,
+    keys: F,
+    left: u32,
+) -> anyhow::Result<()>
     requires { F.IsAlwaysCallable keys }
 {
     let mut sealer = keyed::<K>(keys(2), 2, left)?;
