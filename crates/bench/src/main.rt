@@ -28,5 +28,7 @@ fn main(rt: HostRuntime) -> io::Result<()> {
 
 // Each tag's first byte comes from the tag before, so that no two can be made at once.
 fn tags(statement: &[u8], runs: u32) -> u64 {
-    (0..runs).fold(0, |tag, _| siphash_after(&KEY, (tag % 256) as u8, statement))
+    (0..runs).fold(0, |tag, _| {
+        siphash_after(&KEY, (tag % 256) as u8, statement)
+    })
 }

@@ -12,7 +12,8 @@ use seal::row::{KeyRow, Row};
 use seal::sealers::{Checker, Sealer};
 use seal::single::{Single, SingleKey};
 use seal::stating::seal_statement;
-use std::array;
+
+const MEMBERS: [u8; 10] = [0, 1, 2, 3, 4, 5, 6, 7, 8, 9];
 
 // The key that members a and b share; a member's own key is the one it shares with itself.
 fn key(a: u8, b: u8) -> [u8; 16] {
@@ -24,12 +25,12 @@ fn key(a: u8, b: u8) -> [u8; 16] {
 
 // Every member's own key, known to all.
 fn own_keys() -> Keys {
-    array::from_fn(|i| key(i as u8, i as u8))
+    MEMBERS.map(|a| key(a, a))
 }
 
 // The row of keys that one member shares with each.
 fn key_row(a: u8) -> Keys {
-    array::from_fn(|i| key(a, i as u8))
+    MEMBERS.map(|b| key(a, b))
 }
 
 // A member's sealer.
@@ -106,7 +107,11 @@ fn refused(rt: &HostRuntime, why: Refusal) -> anyhow::Result<()> {
 }
 
 // Member 2 makes a seal, at which the others look, and then seals until its sealer is worn.
-fn with_kind<K: SealKind, F: Fn(u8) -> Keys>(rt: &HostRuntime, keys: F, left: u32) -> anyhow::Result<()>
+fn with_kind<K: SealKind, F: Fn(u8) -> Keys>(
+    rt: &HostRuntime,
+    keys: F,
+    left: u32,
+) -> anyhow::Result<()>
     requires { F.IsAlwaysCallable keys }
 {
     let mut sealer = keyed::<K>(keys(2), 2, left)?;

@@ -94,6 +94,9 @@ fn agreeing<F: Fn(&[u8]) -> Option<u64>>(hash: F) -> usize
     EXPECTED
         .iter()
         .enumerate()
-        .filter(|(n, expected)| longest.get(..*n).and_then(|message| hash(message)) == Some(**expected))
+        .filter(|(n, expected)| {
+            let given = longest.get(..*n).and_then(|message| hash(message));
+            given == Some(**expected)
+        })
         .count()
 }
