@@ -14,7 +14,6 @@ use base::counters::Member;
 use base::refusals::Refusal;
 use base::slips::Slip;
 use base::statements::{Statement, Word};
-use message::parsing::body;
 use message::readers::{Part, Reader};
 use message::shapes::{Certificate, Head, Holds, LockMessage, Message};
 use seal::sealers::Checker;
@@ -64,12 +63,11 @@ impl<C: Checker> Seals<'_, C> {
 
     // Refused at the first of the quorum's seals that is not recognised.
     // Kept: that all of them are there stays a premise, since anyone may fill in a certificate's public fields.
-    fn votes(&self, statement: &Statement, mut votes: Reader<'_>) -> Result<(), Refusal>
+    fn votes(&self, statement: &Statement, votes: Reader<'_>) -> Result<(), Refusal>
         ensures { whole (place_of votes.entry) ≡ true → length (left (place_of votes.entry)) ≤ 7 → result ≡ passing (bad_seal (C.Checker.recognised self.now.checker.now) (vote_checks 2 self.now.inside statement.now (votes_at (place_of votes.entry)))) }
     {
-        // Kept: a reader of bodies is no iterator, so the place is counted beside it.
         let mut place = 2u8;
-        while let Some(vote) = body(&mut votes) {
+        for vote in votes {
             if !self.stands(vote.member, statement, vote.part) {
                 return Err(Refusal::BadSeal {
                     place,

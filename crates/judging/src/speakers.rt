@@ -7,7 +7,6 @@ ghost use Rattle.protocol.specs.Judging.{all_members, from_leader, cert_familiar
 ghost use Rattle.judging.specs.Views.{sent_of, content_in, cert_of, votes_at};
 
 use base::pools::Pool;
-use message::parsing::body;
 use message::readers::Reader;
 use message::shapes::{Certificate, Head, Holds, Message};
 
@@ -43,11 +42,10 @@ fn from_leader(pool: Pool, head: Head) -> bool
 }
 
 // Whether the members in whose names the bodies before the reader stand are the pool's.
-fn all_members(pool: Pool, mut votes: Reader<'_>) -> bool
+fn all_members(pool: Pool, votes: Reader<'_>) -> bool
     ensures { whole (place_of votes.entry) ≡ true → result ≡ all_members pool (votes_at (place_of votes.entry)) }
 {
-    // Kept: a reader of bodies is no iterator, so there is no `all`.
-    while let Some(vote) = body(&mut votes) {
+    for vote in votes {
         if !pool.has(vote.member) {
             return false;
         }
