@@ -66,15 +66,13 @@ impl<C: Checker> Seals<'_, C> {
     fn votes(&self, statement: &Statement, votes: Reader<'_>) -> Result<(), Refusal>
         ensures { whole (place_of votes.entry) ≡ true → length (left (place_of votes.entry)) ≤ 7 → result ≡ passing (bad_seal (C.Checker.recognised self.now.checker.now) (vote_checks 2 self.now.inside statement.now (votes_at (place_of votes.entry)))) }
     {
-        let mut place = 2u8;
-        for vote in votes {
+        for (vote, place) in votes.zip(2..) {
             if !self.stands(vote.member, statement, vote.part) {
                 return Err(Refusal::BadSeal {
                     place,
                     inside: self.inside,
                 });
             }
-            place = place.saturating_add(1);
         }
         Ok(())
     }
