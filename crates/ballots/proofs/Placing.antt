@@ -35,11 +35,6 @@ none_stated n xs h is =
 pub stated_at : (n : ℕ) (xs : List (Option Latest)) (i : ℕ) → i < n → option_map latest_view (get_or xs i None) ≡ get_or (latest_list (take n xs)) i None
 stated_at n xs i h = sym (get_d_seen (option_map latest_view) (take n xs) i None ∙ ap (option_map latest_view) (get_or-take n xs i None h))
 
-pub stated_past : (n : ℕ) (xs : List (Option Latest)) (i : ℕ) (l : Latest) → n ≤ i → latest_list (take n xs) ≡ set (latest_list (take n xs)) i (Some (latest_view l))
-stated_past n xs i l h =
-    let long : length (latest_list (take n xs)) ≤ i = omega (arith, length-map (take n xs) (option_map latest_view), length-take n xs)
-    in sym (set_past (latest_list (take n xs)) i (Some (latest_view l)) long)
-
 pub stated_set : (n : ℕ) (xs : List (Option Latest)) (i : ℕ) (l : Latest) → latest_list (take n (set xs i (Some l))) ≡ set (latest_list (take n xs)) i (Some (latest_view l))
 stated_set n xs i l = ap latest_list (take_of_set n xs i (Some l)) ∙ map-set (option_map latest_view) (take n xs) i (Some l)
 

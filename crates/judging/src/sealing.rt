@@ -66,7 +66,7 @@ impl<C: Checker> Seals<'_, C> {
     fn votes(&self, statement: &Statement, votes: Reader<'_>) -> Result<(), Refusal>
         ensures { whole (place_of votes.entry) ≡ true → length (left (place_of votes.entry)) ≤ 7 → result ≡ passing (bad_seal (C.Checker.recognised self.now.checker.now) (vote_checks 2 self.now.inside statement.now (votes_at (place_of votes.entry)))) }
     {
-        for (vote, place) in votes.zip(2..=u8::MAX) {
+        for (vote, place) in votes.zip(2..) {
             if !self.stands(vote.member, statement, vote.part) {
                 return Err(Refusal::BadSeal {
                     place,
