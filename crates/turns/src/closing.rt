@@ -26,7 +26,7 @@ fn judge_closing<S: Sealer, R: Rulebook>(
 ) -> Result<(), Refusal>
     ensures { judged_as (λ _. closing_plan (⟦<Core<S, R> as Boxed>⟧.boxed core.now) (counting_view turn.now) (records_view records.now)) result ≡ judge_closing (⟦<Core<S, R> as Boxed>⟧.boxed core.now) (counting_view turn.now) (records_view records.now) }
 {
-    judge_turn(core, turn.height, turn.round, records)?;
+    judge_turn(core, turn.at, records)?;
     let pool = core.settings.pool;
     if !core.leads() {
         return Err(Refusal::NotYourTurn);
