@@ -1,5 +1,5 @@
 -- Trying settings.
-use Rattle.std.specs.Prelude.{ℕ, cond, Some, None, Ok, Err, Option, Result, ◌==◌}
+use Rattle.std.specs.Prelude.{ℕ, cond, Some, None, Ok, Err, Option, Result}
 use Rattle.base.specs.Pools.{pool_of}
 use Rattle.base.specs.declared.pools.Pool.{Pool}
 use Rattle.base.specs.declared.refusals.Refusal.{Refusal}

@@ -45,10 +45,7 @@ fn arrive(state: &State, pool: Pool, m: &Message<'_>) -> Result<Stage, Refusal>
 }
 
 // The slip of a page, if any, stands on the last page, and the rulebook admits it.
-fn judge_page<S: Sealer, R: Rulebook>(
-    core: &Core<S, R>,
-    page: &Option<Slip>,
-) -> Result<(), Refusal>
+fn judge_page<S: Sealer, R: Rulebook>(core: &Core<S, R>, page: &Option<Slip>) -> Result<(), Refusal>
     ensures { let b = ⟦<Core<S, R> as Boxed>⟧.boxed core.now in result ≡ passing (slip_verdict (b.rules.admits b.view.height) b.view.last page.now) }
 {
     match page {

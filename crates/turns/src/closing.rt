@@ -75,6 +75,7 @@ pub fn close<S: Sealer, R: Rulebook>(
     ensures ends { Does ⟦<Core<S, R> as Boxed>⟧.boxed core.old core.new fill.old.len fill.new.len out.old out.new (λ b. judge_closing b (counting_view turn) (records_view records.now)) (closed_view result) }
     ensures back { HandedBack turn result }
 {
+    // Kept: the turn is moved on both ways, let go or handed back.
     match decide(core, &turn, records, out, fill) {
         Ok(()) => {
             turn.abandon();

@@ -78,6 +78,7 @@ fn judge_content<S: Sealer, R: Rulebook>(
 ) -> Result<Commit, Refusal>
     ensures { Whole m.now → Keepable (commit_in (sent_of m.now).content) → (records : Records) → judged_as (λ c. noting_plan (⟦<Core<S, R> as Boxed>⟧.boxed core.now) turn.now.page records (sender_in m.now.head) (committed c)) result ≡ judged_commit (⟦<Core<S, R> as Boxed>⟧.boxed core.now) (counting_view turn.now) records m.now.head (commit_in (sent_of m.now).content) }
 {
+    // Kept: one kind of six is taken apart here, which is no Option.
     let Holds::Commit { slip, seal } = &m.holds else {
         return Err(Refusal::OutOfStage);
     };

@@ -72,6 +72,7 @@ pub fn put_forward<S: Sealer, R: Rulebook>(
     ensures back { HandedBack turn result }
     ensures kept { KeptUnlessOk records.old records.new result }
 {
+    // Kept: the turn is moved on both ways, let go or handed back.
     match forward(core, &turn, records, out, fill) {
         Ok(next) => {
             turn.abandon();

@@ -25,6 +25,7 @@ impl Moment {
 }
 
 // A turn that can only be put forward.
+// Kept: two types, since each takes other calls and the one is moved into the other.
 pub struct Gathering {
     pub(crate) at: Moment,
 }
