@@ -1,5 +1,5 @@
 -- The pool's arithmetic: sizes, the number of members that may lie, quorums, leaders; the ranges of the counters.
-use Rattle.std.specs.Prelude.{ℕ, ◌+◌, ◌*◌, ◌%◌, Bool, ◌&&◌, nat_le}
+use Rattle.std.specs.Prelude.{ℕ, ◌+◌, ◌*◌, ◌%◌, Bool, cond, ◌&&◌, Some, None, Option, ◌==◌, nat_le}
 use Rattle.base.specs.declared.counters.Height.{Height}
 use Rattle.base.specs.declared.counters.Round.{Round}
 use Rattle.base.specs.declared.pools.Pool.{Pool}
@@ -18,6 +18,10 @@ height_in_range h = nat_le 1 h.0 && nat_le h.0 last_height
 
 abbrev pub round_in_range : Round → Bool
 round_in_range r = nat_le r.0 last_round
+
+-- a pool has 4, 7 or 10 members
+abbrev pub pool_of : ℕ → Option Pool
+pool_of n = cond (n == 4) (Some Four) (cond (n == 7) (Some Seven) (cond (n == 10) (Some Ten) None))
 
 -- t, how many of the members may lie
 abbrev pub tolerance : Pool → ℕ

@@ -1,8 +1,11 @@
 // The pool's size and what follows from it.
 ghost use Rattle.std.specs.Prelude.{◌≡◌, ◌<◌, nat_lt};
-ghost use Rattle.base.specs.Pools.{tolerance, members, quorum, leader_of};
+ghost use Rattle.std.specs.Option.{ok_or};
+ghost use Rattle.base.specs.Pools.{tolerance, members, quorum, leader_of, pool_of};
+ghost use Rattle.base.specs.declared.refusals.Refusal.TheVariants.{Unlawful};
 
 use crate::counters::{Height, Member, Round};
+use crate::refusals::Refusal;
 
 // How many members the pool has: n = 3t + 1, of which at most t may lie.
 #[derive(Clone, Copy, PartialEq, Eq, Debug)]
@@ -10,6 +13,22 @@ pub enum Pool {
     Four,
     Seven,
     Ten,
+}
+
+impl TryFrom<u32> for Pool {
+    type Error = Refusal;
+
+    ghost try_from_gives = { λ n r. r ≡ ok_or (pool_of n) Unlawful };
+
+    // The pool of so many members: there are 4, 7 or 10.
+    fn try_from(members: u32) -> Result<Self, Refusal> {
+        match members {
+            4 => Ok(Pool::Four),
+            7 => Ok(Pool::Seven),
+            10 => Ok(Pool::Ten),
+            _ => Err(Refusal::Unlawful),
+        }
+    }
 }
 
 impl Pool {

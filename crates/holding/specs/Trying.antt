@@ -1,7 +1,7 @@
 -- Trying settings.
-use Rattle.std.specs.Prelude.{ℕ, cond, Some, None, Ok, Err, Option, Result, ◌==◌}
+use Rattle.std.specs.Prelude.{ℕ, cond, Some, None, Ok, Err, Option, Result}
+use Rattle.base.specs.Pools.{pool_of}
 use Rattle.base.specs.declared.pools.Pool.{Pool}
-use Rattle.base.specs.declared.pools.Pool.TheVariants.{Four, Seven, Ten}
 use Rattle.base.specs.declared.refusals.Refusal.{Refusal}
 use Rattle.base.specs.declared.refusals.Refusal.TheVariants.{Unlawful}
 use Rattle.holding.specs.declared.settings.Settings.{Settings}
@@ -9,10 +9,6 @@ use Rattle.holding.specs.declared.trials.Terms.{Terms}
 use Rattle.holding.specs.Views.{settings_view}
 use Rattle.protocol.specs.State.{settings_lawful}
 use Rattle.protocol.specs.State as protocol
-
--- a pool has 4, 7 or 10 members
-abbrev pub pool_of : ℕ → Option Pool
-pool_of n = cond (n == 4) (Some Four) (cond (n == 7) (Some Seven) (cond (n == 10) (Some Ten) None))
 
 -- what is asked for, once the pool is known
 abbrev pub asked : Terms → ℕ × (Pool → protocol.Settings)

@@ -2,16 +2,20 @@
 ghost use Rattle.std.specs.Prelude.{◌≡◌, nat_lt};
 ghost use Rattle.base.specs.Pools.{members};
 ghost use Rattle.base.specs.Refusals.{passing};
+ghost use Rattle.base.specs.declared.refusals.Refusal.TheVariants.{OffChain, NotAdmitted};
 ghost use Rattle.holding.specs.Views.{box_of};
 ghost use Rattle.judging.specs.Views.{sent_of};
 ghost use Rattle.message.specs.Wholes.{Whole};
-ghost use Rattle.protocol.specs.Judging.{bad_seal, checks_of};
+ghost use Rattle.protocol.specs.Judging.{bad_seal, checks_of, on_chain};
+ghost use Rattle.protocol.specs.Plans.{unless};
 ghost use Rattle.protocol.specs.State.{Box};
 ghost use Rattle.protocol.specs.Turns.{leads};
 
 use crate::settings::Settings;
 use crate::states::State;
 use base::refusals::Refusal;
+use base::slips::Slip;
+use judging::contents::on_chain;
 use judging::sealing::first_bad_seal;
 use message::parsing::Format;
 use message::shapes::Message;
@@ -60,6 +64,19 @@ impl<S: Sealer, R: Rulebook> Core<S, R> {
             pool: self.settings.pool,
             seal_len: S::seal_length(),
         }
+    }
+
+    // Whether a slip stands on the last page and the rulebook admits it.
+    pub fn judge_slip(&self, slip: &Slip) -> Result<(), Refusal>
+        ensures { let b = ⟦<Self as Boxed>⟧.boxed self.now in result ≡ unless (on_chain b.view.last slip.now) OffChain (unless (b.rules.admits b.view.height slip.now) NotAdmitted (Ok tt)) }
+    {
+        if !on_chain(&self.state.last, slip) {
+            return Err(Refusal::OffChain);
+        }
+        if !self.rules.admits(self.state.height, slip) {
+            return Err(Refusal::NotAdmitted);
+        }
+        Ok(())
     }
 
     // Whether all seals of a message are recognised: refused by the first that is not.

@@ -1,7 +1,7 @@
 // Trying settings, and the times that follow from them.
 ghost use Rattle.std.specs.Prelude.{◌≡◌};
 ghost use Rattle.protocol.specs.Calls.{time_of};
-ghost use Rattle.holding.specs.Trying.{pool_of, tried, shown_settings, asked};
+ghost use Rattle.holding.specs.Trying.{tried, shown_settings, asked};
 ghost use Rattle.holding.specs.Views.{settings_view};
 
 use crate::settings::Settings;
@@ -21,25 +21,13 @@ pub struct Terms {
     pub times: Times,
 }
 
-// The pool of so many members: there are 4, 7 or 10.
-fn pool_of(members: u32) -> Option<Pool>
-    ensures { result ≡ pool_of members }
-{
-    match members {
-        4 => Some(Pool::Four),
-        7 => Some(Pool::Seven),
-        10 => Some(Pool::Ten),
-        _ => None,
-    }
-}
-
 impl Settings {
     // Tries settings: the pool has 4, 7 or 10 members, the start height is in range, times are 1 to 60,000 ticks, and g is
     // below d1.
     pub fn new(terms: &Terms) -> Result<Settings, Refusal>
         ensures { shown_settings result ≡ tried (asked terms.now) }
     {
-        let pool = pool_of(terms.members).ok_or(Refusal::Unlawful)?;
+        let pool = Pool::try_from(terms.members)?;
         if !terms.start_height.in_range() || !terms.times.are_lawful() {
             return Err(Refusal::Unlawful);
         }

@@ -18,6 +18,8 @@ use rules::rulebooks::Rulebook;
 use seal::sealers::Sealer;
 use sending::sends::{send_change, send_release};
 
+// Kept: out and fill stay two parameters beside the core, here and in what stands on it, since a draft guards the fill alone.
+
 // States a round from a state that the call has come to. The state is stored once the change is sent.
 pub(crate) fn state_round<S: Sealer, R: Rulebook>(
     core: &mut Core<S, R>,

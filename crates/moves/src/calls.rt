@@ -13,7 +13,6 @@ use base::slips::Slip;
 use base::stages::Stage;
 use holding::cores::{Boxed, Core};
 use holding::times::is_timely;
-use judging::contents::on_chain;
 use outbox::drafts::Fill;
 use protocol::answers::Answer;
 use rules::rulebooks::Rulebook;
@@ -23,17 +22,11 @@ use seal::sealers::Sealer;
 fn judge_offer<S: Sealer, R: Rulebook>(core: &Core<S, R>, slip: &Slip) -> Result<(), Refusal>
     ensures { result ≡ passing (offer_refused (⟦<Core<S, R> as Boxed>⟧.boxed core.now) slip.now) }
 {
-    let state = &core.state;
     if !core.is_member() {
         return Err(Refusal::Stranger);
     }
-    if !on_chain(&state.last, slip) {
-        return Err(Refusal::OffChain);
-    }
-    if !core.rules.admits(state.height, slip) {
-        return Err(Refusal::NotAdmitted);
-    }
-    if !state.candidates.has_place(slip) {
+    core.judge_slip(slip)?;
+    if !core.state.candidates.has_place(slip) {
         return Err(Refusal::CandidatesFull);
     }
     Ok(())

@@ -6,14 +6,14 @@ ghost use Rattle.holding.specs.Views.{view_of};
 ghost use Rattle.judging.specs.Views.{sent_of};
 ghost use Rattle.moves.specs.Verdict.{arrival, slip_verdict, standing, verdict, judged_as, Leads, stage_led_to};
 
-use base::counters::{Height, Member};
+use base::counters::Member;
 use base::pools::Pool;
 use base::refusals::Refusal;
-use base::slips::{Mark, Slip};
+use base::slips::Slip;
 use base::stages::Stage;
 use holding::cores::{Boxed, Core};
 use holding::states::State;
-use judging::contents::{kind_of, on_chain, slip_of};
+use judging::contents::{kind_of, slip_of};
 use judging::speakers::familiar;
 use judging::staging::advance;
 use message::shapes::Message;
@@ -45,24 +45,13 @@ fn arrive(state: &State, pool: Pool, m: &Message<'_>) -> Result<Stage, Refusal>
 }
 
 // The slip of a page, if any, stands on the last page, and the rulebook admits it.
-fn judge_slip<R: Rulebook>(
-    rules: &R,
-    height: Height,
-    last: &Mark,
-    page: &Option<Slip>,
-) -> Result<(), Refusal>
-    ensures { result ≡ passing (slip_verdict (R.Rulebook.admitted rules.now height) last.now page.now) }
+fn judge_page<S: Sealer, R: Rulebook>(core: &Core<S, R>, page: &Option<Slip>) -> Result<(), Refusal>
+    ensures { let b = ⟦<Core<S, R> as Boxed>⟧.boxed core.now in result ≡ passing (slip_verdict (b.rules.admits b.view.height) b.view.last page.now) }
 {
-    let Some(slip) = page else {
-        return Ok(());
-    };
-    if !on_chain(last, slip) {
-        return Err(Refusal::OffChain);
+    match page {
+        Some(slip) => core.judge_slip(slip),
+        None => Ok(()),
     }
-    if !rules.admits(height, slip) {
-        return Err(Refusal::NotAdmitted);
-    }
-    Ok(())
 }
 
 // What a message meets in the state: no contradiction, a place for its slip, a book that goes on.
@@ -94,7 +83,7 @@ pub(crate) fn judge<S: Sealer, R: Rulebook>(
     let pool = core.settings.pool;
     let stage = arrive(state, pool, m)?;
     core.judge_seals(m)?;
-    judge_slip(&core.rules, state.height, &state.last, &slip_of(m))?;
+    judge_page(core, &slip_of(m))?;
     judge_standing(state, pool, core.sealer.member(), m)?;
     Ok(stage)
 }

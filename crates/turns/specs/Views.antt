@@ -9,10 +9,10 @@ use Rattle.turns.specs.declared.phases.Counting.{Counting}
 use Rattle.turns.specs.declared.phases.Gathering.{Gathering}
 
 abbrev pub gathering_view : Gathering → protocol.Gathering
-gathering_view t = record { height = t.height.0; round = t.round.0 }
+gathering_view t = record { height = t.at.height.0; round = t.at.round.0 }
 
 abbrev pub counting_view : Counting → protocol.Counting
-counting_view t = record { height = t.height.0; round = t.round.0; page = t.page }
+counting_view t = record { height = t.at.height.0; round = t.at.round.0; page = t.page }
 
 -- an opened turn, or why there is none
 abbrev pub opened_view : Result Gathering Refusal → Result protocol.Gathering Refusal

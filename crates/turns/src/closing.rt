@@ -26,7 +26,7 @@ fn judge_closing<S: Sealer, R: Rulebook>(
 ) -> Result<(), Refusal>
     ensures { judged_as (λ _. closing_plan (⟦<Core<S, R> as Boxed>⟧.boxed core.now) (counting_view turn.now) (records_view records.now)) result ≡ judge_closing (⟦<Core<S, R> as Boxed>⟧.boxed core.now) (counting_view turn.now) (records_view records.now) }
 {
-    judge_turn(core, turn.height, turn.round, records)?;
+    judge_turn(core, turn.at, records)?;
     let pool = core.settings.pool;
     if !core.leads() {
         return Err(Refusal::NotYourTurn);
@@ -75,6 +75,7 @@ pub fn close<S: Sealer, R: Rulebook>(
     ensures ends { Does ⟦<Core<S, R> as Boxed>⟧.boxed core.old core.new fill.old.len fill.new.len out.old out.new (λ b. judge_closing b (counting_view turn) (records_view records.now)) (closed_view result) }
     ensures back { HandedBack turn result }
 {
+    // Kept: the turn is moved on both ways, let go or handed back.
     match decide(core, &turn, records, out, fill) {
         Ok(()) => {
             turn.abandon();

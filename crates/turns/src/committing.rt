@@ -22,7 +22,6 @@ use base::refusals::Refusal;
 use base::seals::Seal;
 use base::slips::{Slip, one_page};
 use holding::cores::{Boxed, Core};
-use judging::contents::on_chain;
 use judging::speakers::familiar;
 use message::shapes::{Holds, Message};
 use rules::rulebooks::Rulebook;
@@ -34,7 +33,7 @@ fn judge_time<S: Sealer, R: Rulebook>(
     turn: &Counting,
     m: &Message<'_>,
 ) -> Result<(), Refusal>
-    ensures { Whole m.now → (rest : Answered (Plan Records) Why) → result_and result rest ≡ unless (nat_le core.now.state.height.0 (height_in (sent_of m.now).head)) PastHeight (unless (nat_le (height_in (sent_of m.now).head) core.now.state.height.0) LaterHeight (unless (familiar core.now.settings.pool (sent_of m.now)) Stranger (unless (still_in (⟦<Core<S, R> as Boxed>⟧.boxed core.now) turn.now.height.0 turn.now.round.0) TurnPast (unless (round_in (sent_of m.now).head == turn.now.round.0) WrongRound rest)))) }
+    ensures { Whole m.now → (rest : Answered (Plan Records) Why) → result_and result rest ≡ unless (nat_le core.now.state.height.0 (height_in (sent_of m.now).head)) PastHeight (unless (nat_le (height_in (sent_of m.now).head) core.now.state.height.0) LaterHeight (unless (familiar core.now.settings.pool (sent_of m.now)) Stranger (unless (still_in (⟦<Core<S, R> as Boxed>⟧.boxed core.now) turn.now.at.height.0 turn.now.at.round.0) TurnPast (unless (round_in (sent_of m.now).head == turn.now.at.round.0) WrongRound rest)))) }
 {
     let state = &core.state;
     if m.head.height < state.height {
@@ -46,10 +45,10 @@ fn judge_time<S: Sealer, R: Rulebook>(
     if !familiar(core.settings.pool, m) {
         return Err(Refusal::Stranger);
     }
-    if !is_in(state, turn.height, turn.round) {
+    if !is_in(state, turn.at) {
         return Err(Refusal::TurnPast);
     }
-    if m.head.round != turn.round {
+    if m.head.round != turn.at.round {
         return Err(Refusal::WrongRound);
     }
     Ok(())
@@ -63,12 +62,7 @@ fn judge_page<S: Sealer, R: Rulebook>(
 ) -> Result<(), Refusal>
     ensures { (rest : Answered (Plan Records) Why) → result_and result rest ≡ unless (on_chain core.now.state.last slip.now) OffChain (unless (R.Rulebook.admitted core.now.rules core.now.state.height slip.now) NotAdmitted (unless (one_page slip.now turn.now.page) Contradiction rest)) }
 {
-    if !on_chain(&core.state.last, slip) {
-        return Err(Refusal::OffChain);
-    }
-    if !core.rules.admits(core.state.height, slip) {
-        return Err(Refusal::NotAdmitted);
-    }
+    core.judge_slip(slip)?;
     if !one_page(slip, &turn.page) {
         return Err(Refusal::Contradiction);
     }
@@ -83,6 +77,7 @@ fn judge_content<S: Sealer, R: Rulebook>(
 ) -> Result<Commit, Refusal>
     ensures { Whole m.now → Keepable (commit_in (sent_of m.now).content) → (records : Records) → judged_as (λ c. noting_plan (⟦<Core<S, R> as Boxed>⟧.boxed core.now) turn.now.page records (sender_in m.now.head) (committed c)) result ≡ judged_commit (⟦<Core<S, R> as Boxed>⟧.boxed core.now) (counting_view turn.now) records m.now.head (commit_in (sent_of m.now).content) }
 {
+    // Kept: one kind of six is taken apart here, which is no Option.
     let Holds::Commit { slip, seal } = &m.holds else {
         return Err(Refusal::OutOfStage);
     };

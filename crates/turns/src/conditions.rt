@@ -8,9 +8,9 @@ ghost use Rattle.protocol.specs.Plans.{unless};
 ghost use Rattle.protocol.specs.State.{tally};
 ghost use Rattle.protocol.specs.Turns.{commits_to, enough, still_in};
 
+use crate::phases::Moment;
 use ballots::commits::CommitRecord;
 use ballots::tallies::count;
-use base::counters::{Height, Round};
 use base::pools::Pool;
 use base::refusals::Refusal;
 use base::slips::Slip;
@@ -20,10 +20,10 @@ use rules::rulebooks::Rulebook;
 use seal::sealers::Sealer;
 
 // Whether the replica is in that height and round.
-pub(crate) fn is_in(state: &State, height: Height, round: Round) -> bool
-    ensures { result ≡ (state.now.height.0 == height.0 && state.now.round.0 == round.0) }
+pub(crate) fn is_in(state: &State, at: Moment) -> bool
+    ensures { result ≡ (state.now.height.0 == at.height.0 && state.now.round.0 == at.round.0) }
 {
-    state.height == height && state.round == round
+    state.height == at.height && state.round == at.round
 }
 
 // Whether there is a record for each member.
@@ -52,14 +52,13 @@ pub(crate) fn judge_caller<S: Sealer, R: Rulebook>(
 // What is asked of a call that moves a turn on: besides, the replica is still in the turn's height and round.
 pub(crate) fn judge_turn<S: Sealer, R: Rulebook>(
     core: &Core<S, R>,
-    height: Height,
-    round: Round,
+    at: Moment,
     records: &[CommitRecord],
 ) -> Result<(), Refusal>
-    ensures { let b = ⟦<Core<S, R> as Boxed>⟧.boxed core.now in result ≡ of_member b (unless (enough b (records_view records.now)) FewRecords (unless (still_in b height.0 round.0) TurnPast (Ok tt))) }
+    ensures { let b = ⟦<Core<S, R> as Boxed>⟧.boxed core.now in result ≡ of_member b (unless (enough b (records_view records.now)) FewRecords (unless (still_in b at.height.0 at.round.0) TurnPast (Ok tt))) }
 {
     judge_caller(core, records)?;
-    if !is_in(&core.state, height, round) {
+    if !is_in(&core.state, at) {
         return Err(Refusal::TurnPast);
     }
     Ok(())

@@ -7,7 +7,7 @@ ghost use Rattle.turns.specs.Plans.{judged_as, forward_plan};
 ghost use Rattle.turns.specs.Views.{gathering_view, forward_view, forwarded_view, HandedBack, KeptUnlessOk};
 
 use crate::conditions::judge_turn;
-use crate::phases::{Counting, Gathering};
+use crate::phases::{Counting, Gathering, Moment};
 use crate::proposing::{Proposal, propose, send_proposal};
 use ballots::commits::{CommitRecord, blank};
 use base::refusals::Refusal;
@@ -25,7 +25,7 @@ fn judge_forward<S: Sealer, R: Rulebook>(
 ) -> Result<Proposal, Refusal>
     ensures { judged_as (forward_plan (⟦<Core<S, R> as Boxed>⟧.boxed core.now) (records_view records.now)) result ≡ judge_forward (⟦<Core<S, R> as Boxed>⟧.boxed core.now) (gathering_view turn.now) (records_view records.now) }
 {
-    judge_turn(core, turn.height, turn.round, records)?;
+    judge_turn(core, turn.at, records)?;
     if core.state.stage != Stage::Locking {
         return Err(Refusal::TurnPast);
     }
@@ -52,11 +52,8 @@ fn forward<S: Sealer, R: Rulebook>(
     match proposal {
         Proposal::Lock(page) => {
             blank(records, pool.size());
-            Ok(Some(Counting {
-                height: core.state.height,
-                round: core.state.round,
-                page,
-            }))
+            let at = Moment::of(&core.state);
+            Ok(Some(Counting { at, page }))
         }
         Proposal::Select(_) => Ok(None),
     }
@@ -75,6 +72,7 @@ pub fn put_forward<S: Sealer, R: Rulebook>(
     ensures back { HandedBack turn result }
     ensures kept { KeptUnlessOk records.old records.new result }
 {
+    // Kept: the turn is moved on both ways, let go or handed back.
     match forward(core, &turn, records, out, fill) {
         Ok(next) => {
             turn.abandon();

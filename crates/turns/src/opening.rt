@@ -4,7 +4,7 @@ ghost use Rattle.holding.specs.Outcome.{DoesAlone};
 ghost use Rattle.protocol.specs.Turns.{judge_opening};
 ghost use Rattle.turns.specs.Views.{opened_view};
 
-use crate::phases::Gathering;
+use crate::phases::{Gathering, Moment};
 use base::refusals::Refusal;
 use base::stages::Stage;
 use holding::cores::{Boxed, Core};
@@ -22,8 +22,6 @@ pub fn open_turn<S: Sealer, R: Rulebook>(core: &mut Core<S, R>) -> Result<Gather
         return Err(Refusal::NotYourTurn);
     }
     core.state.turned = true;
-    Ok(Gathering {
-        height: core.state.height,
-        round: core.state.round,
-    })
+    let at = Moment::of(&core.state);
+    Ok(Gathering { at })
 }

@@ -3,41 +3,57 @@ ghost use Rattle.std.specs.Prelude.{◌≡◌};
 
 use base::counters::{Height, Round};
 use base::slips::Slip;
+use holding::states::State;
 
-// A turn that can only be put forward.
-pub struct Gathering {
+// A height, and a round of it.
+#[derive(Clone, Copy)]
+pub(crate) struct Moment {
     pub(crate) height: Height,
     pub(crate) round: Round,
 }
 
+impl Moment {
+    // The height and round that a replica is in.
+    pub(crate) fn of(state: &State) -> Moment
+        ensures { result ≡ record { height = state.now.height; round = state.now.round } }
+    {
+        Moment {
+            height: state.height,
+            round: state.round,
+        }
+    }
+}
+
+// A turn that can only be put forward.
+// Kept: two types, since each takes other calls and the one is moved into the other.
+pub struct Gathering {
+    pub(crate) at: Moment,
+}
+
 // A turn that takes commits and is closed.
 pub struct Counting {
-    pub(crate) height: Height,
-    pub(crate) round: Round,
+    pub(crate) at: Moment,
     pub(crate) page: Slip,
 }
 
 impl Gathering {
     // Lets the turn go.
     pub fn abandon(self) {
-        let Gathering {
-            height: _,
-            round: _,
-        } = self;
+        let Gathering { at: _ } = self;
     }
 }
 
 impl Counting {
     pub fn height(&self) -> Height
-        ensures { result ≡ self.now.height }
+        ensures { result ≡ self.now.at.height }
     {
-        self.height
+        self.at.height
     }
 
     pub fn round(&self) -> Round
-        ensures { result ≡ self.now.round }
+        ensures { result ≡ self.now.at.round }
     {
-        self.round
+        self.at.round
     }
 
     // The page that was put forward.
@@ -49,10 +65,6 @@ impl Counting {
 
     // Lets the turn go.
     pub fn abandon(self) {
-        let Counting {
-            height: _,
-            round: _,
-            page: _,
-        } = self;
+        let Counting { at: _, page: _ } = self;
     }
 }

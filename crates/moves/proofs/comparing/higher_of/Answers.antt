@@ -14,26 +14,26 @@ use Rattle.moves.proofs.comparing.higher_of.Goals as goal
 pub returns-in-Some : goal.returns-in-Some
 returns-in-Some g c =
     let b = box_of g.S.Sealer.meaning g.R.Rulebook.admitted g.R.Rulebook.ranked c.args.core.now
-    in let n = c.seal_length-len.result
+    in let n = g.S.Checker.seal_long
     in let pool = b.settings.pool
     in let m = c.args.received.now
-    in ap handed c.higher_lock.ensures ∙ handed_higher (lock_of pool n c.as_slice.result.now) (lock_of pool n m) c.as_slice.result c.args.received
+    in ap handed (c.higher_lock.ensures ∙ ap (λ f. higher_of (lock_of f.pool f.seal_len c.as_slice.result.now) (lock_of f.pool f.seal_len m) c.as_slice.result c.args.received) c.format-format.ensures) ∙ handed_higher (lock_of pool n c.as_slice.result.now) (lock_of pool n m) c.as_slice.result c.args.received
     ∙ (λ i. higher_of (lock_of pool n (c.as_slice.ensures.bytes i)) (lock_of pool n m) (c.as_slice.ensures.bytes i) m)
-    ∙ compares b m n (Some (held_view c.in-Some.held)) (g.met.S.Sealer.long c.args.core.now.sealer ∙ sym c.seal_length-len.ensures) c.if-not-is_member.ensures (ap (option_map held_view) c.in-Some.is)
+    ∙ compares b m n (Some (held_view c.in-Some.held)) (g.met.S.Sealer.long c.args.core.now.sealer) c.if-not-is_member.ensures (ap (option_map held_view) c.in-Some.is)
 
 pub returns-in_ok-ok_or-in-None : goal.returns-in_ok-ok_or-in-None
 returns-in_ok-ok_or-in-None g c =
     let b = box_of g.S.Sealer.meaning g.R.Rulebook.admitted g.R.Rulebook.ranked c.args.core.now
-    in let n = c.seal_length-len.result
+    in let n = g.S.Checker.seal_long
     in let m = c.args.received.now
     in ap (λ o. if_lock (option_map lock_view o) m) (sym c.in_ok-ok_or-in-None.ensures.ok_part)
-    ∙ ap (λ l. if_lock l m) c.parse_lock.ensures.reads
-    ∙ compares b m n None (g.met.S.Sealer.long c.args.core.now.sealer ∙ sym c.seal_length-len.ensures) c.if-not-is_member.ensures (ap (option_map held_view) c.in-None.is)
+    ∙ ap (λ l. if_lock l m) (c.parse_lock.ensures.reads ∙ ap (λ f. lock_of f.pool f.seal_len m) c.format-format.ensures)
+    ∙ compares b m n None (g.met.S.Sealer.long c.args.core.now.sealer) c.if-not-is_member.ensures (ap (option_map held_view) c.in-None.is)
 
 pub returns-in_err-ok_or-in-None : goal.returns-in_err-ok_or-in-None
 returns-in_err-ok_or-in-None g c =
     let b = box_of g.S.Sealer.meaning g.R.Rulebook.admitted g.R.Rulebook.ranked c.args.core.now
-    in let n = c.seal_length-len.result
+    in let n = g.S.Checker.seal_long
     in let m = c.args.received.now
     in let p = err_from_is_err_and c.from_residual.result c.from_residual.ensures.1
     in let e = c.in_err-ok_or-in-None.ensures
@@ -41,5 +41,5 @@ returns-in_err-ok_or-in-None g c =
     in rw (p.1, p.2)
     (ap Err why
     ∙ ap (λ o. if_lock (option_map lock_view o) m) (sym e.ok_part)
-    ∙ ap (λ l. if_lock l m) c.parse_lock.ensures.reads
-    ∙ compares b m n None (g.met.S.Sealer.long c.args.core.now.sealer ∙ sym c.seal_length-len.ensures) c.if-not-is_member.ensures (ap (option_map held_view) c.in-None.is))
+    ∙ ap (λ l. if_lock l m) (c.parse_lock.ensures.reads ∙ ap (λ f. lock_of f.pool f.seal_len m) c.format-format.ensures)
+    ∙ compares b m n None (g.met.S.Sealer.long c.args.core.now.sealer) c.if-not-is_member.ensures (ap (option_map held_view) c.in-None.is))

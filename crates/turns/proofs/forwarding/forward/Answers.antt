@@ -36,9 +36,10 @@ returns-in-Lock g c =
     in let same = length-map records commit_view
     in record {
       ends =
-          forwards b _ _ _ _ _ _ (records_view records) p c.in_ok-proposal.ensures (g.S.Sealer.meaning c.send_proposal.new.sealer) refl _ (seal_bytes c.in_ok-send_proposal.field-0 ∷ [])
+          rw c.of-at.ensures
+          (forwards b _ _ _ _ _ _ (records_view records) p c.in_ok-proposal.ensures (g.S.Sealer.meaning c.send_proposal.new.sealer) refl _ (seal_bytes c.in_ok-send_proposal.field-0 ∷ [])
           (lock_answers b (records_view records) (records_view c.blank.new.records) p c.in-Lock.page _ c.in-Lock.is (cc) (c.blank.ensures.blanked (omega arith)))
-          c.in_ok-send_proposal.ensures;
+          c.in_ok-send_proposal.ensures);
       kept = tt;
     }
 
