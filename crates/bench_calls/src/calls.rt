@@ -1,19 +1,18 @@
 // Timing calls of a replica: page after page is entered, and each call is timed by itself.
-use crate::hashing::nanos_since;
 use crate::making::{Messages, Page, make};
 use base::counters::Height;
 use base::refusals::Refusal;
 use base::slips::{Mark, Slip};
-use base::writing::put;
 use holding::settings::Settings;
 use outbox::drafts::Fill;
-use playing::faults::Fault;
 use protocol::answers::Answer;
 use replica::replicas::Replica;
 use rules::receipts::Receipts;
 use seal::sealers::Sealer;
 use std::alloc::Global;
+use std::io;
 use std::time::Instant;
+use timing::nanos_since;
 
 const ROOM: usize = 1024;
 
@@ -41,37 +40,36 @@ impl Times {
         }
     }
 
-    fn add(&mut self, other: &Times) {
-        self.begin = self.begin.saturating_add(other.begin);
-        self.change = self.change.saturating_add(other.change);
-        self.lock = self.lock.saturating_add(other.lock);
-        self.decide = self.decide.saturating_add(other.decide);
-    }
-
-    fn least(&mut self, other: &Times) {
-        self.begin = self.begin.min(other.begin);
-        self.change = self.change.min(other.change);
-        self.lock = self.lock.min(other.lock);
-        self.decide = self.decide.min(other.decide);
+    // Of each call what comes of its two times.
+    fn with<F: Fn(u64, u64) -> u64>(self, other: Times, each: F) -> Times
+        requires { F.IsAlwaysCallable each }
+    {
+        Times {
+            begin: each(self.begin, other.begin),
+            change: each(self.change, other.change),
+            lock: each(self.lock, other.lock),
+            decide: each(self.decide, other.decide),
+        }
     }
 
     // The time of one call, without that of reading the clock.
-    fn of_one(&self, clock: u64) -> Times {
-        Times {
-            begin: (self.begin / PAGES as u64).saturating_sub(clock),
-            change: (self.change / PAGES as u64).saturating_sub(clock),
-            lock: (self.lock / PAGES as u64).saturating_sub(clock),
-            decide: (self.decide / PAGES as u64).saturating_sub(clock),
-        }
+    fn of_one(self, clock: u64) -> Times {
+        self.with(
+            Times::all(clock),
+            |sum, clock| (sum / PAGES as u64).saturating_sub(clock),
+        )
     }
 }
 
-// A refusal ends the measurement.
-fn taken(answer: Result<Answer, Refusal>) -> anyhow::Result<()> {
-    match answer {
-        Ok(_) => Ok(()),
-        Err(why) => Err(Fault::Refused(why).into()),
-    }
+// The nanoseconds of one call; a refusal ends the measurement.
+fn time<F: FnOnce() -> Result<Answer, Refusal>>(rt: &HostRuntime, call: F) -> anyhow::Result<u64>
+    requires { F.IsAlwaysCallable call }
+{
+    let start = Instant::now(rt)?;
+    let answer = call();
+    let nanos = nanos_since(rt, &start)?;
+    answer?;
+    Ok(nanos)
 }
 
 // Times one call with that message.
@@ -82,11 +80,7 @@ fn time_take<S: Sealer>(
     out: &mut [u8],
 ) -> anyhow::Result<u64> {
     let mut fill = Fill { len: 0 };
-    let start = Instant::now(rt)?;
-    let answer = book.take(message, out, &mut fill);
-    let nanos = nanos_since(rt, &start)?;
-    taken(answer)?;
-    Ok(nanos)
+    time(rt, || book.take(message, out, &mut fill))
 }
 
 // The mean time of taking these changes.
@@ -96,10 +90,11 @@ fn time_changes<S: Sealer>(
     changes: &[Vec<u8>],
     out: &mut [u8],
 ) -> anyhow::Result<u64> {
-    let mut sum = 0u64;
-    for message in changes {
-        sum = sum.saturating_add(time_take(rt, book, message.as_slice(), out)?);
-    }
+    let sum = changes
+        .iter()
+        .try_fold(0, |sum: u64, message| -> anyhow::Result<u64> {
+            Ok(sum.saturating_add(time_take(rt, book, message.as_slice(), out)?))
+        })?;
     Ok(sum / changes.len().max(1) as u64)
 }
 
@@ -112,11 +107,8 @@ fn time_page<S: Sealer>(
 ) -> anyhow::Result<Times> {
     let mut out = [0u8; ROOM];
     let mut fill = Fill { len: 0 };
-    taken(book.offer(slip))?;
-    let start = Instant::now(rt)?;
-    let answer = book.begin(&mut out, &mut fill);
-    let begin = nanos_since(rt, &start)?;
-    taken(answer)?;
+    book.offer(slip)?;
+    let begin = time(rt, || book.begin(&mut out, &mut fill))?;
     let change = time_changes(rt, book, messages.changes.as_slice(), &mut out)?;
     let lock = time_take(rt, book, messages.lock.as_slice(), &mut out)?;
     let decide = time_take(rt, book, messages.decide.as_slice(), &mut out)?;
@@ -131,7 +123,7 @@ fn time_page<S: Sealer>(
 // The slip of a height, on the page before.
 fn slip_of(parent: Mark, height: Height) -> Slip {
     let mut own = [9u8; 32];
-    let _ = put(&mut own, 0, &height.0.to_be_bytes());
+    own[..4].copy_from_slice(&height.0.to_be_bytes());
     Slip {
         parent,
         own: Mark(own),
@@ -148,8 +140,7 @@ fn time_pages<S: Sealer>(
     settings: &Settings,
     sealers: &mut [S],
 ) -> anyhow::Result<Times> {
-    let mut sum = Times::all(0);
-    for _ in 0..PAGES {
+    (0..PAGES).try_fold(Times::all(0), |sum, _| -> anyhow::Result<Times> {
         let slip = slip_of(book.last_mark(), book.height());
         let page = Page {
             pool: settings.pool,
@@ -157,23 +148,19 @@ fn time_pages<S: Sealer>(
             slip,
         };
         let messages = make(heap, sealers, &page)?;
-        sum.add(&time_page(rt, book, &slip, &messages)?);
-    }
-    Ok(sum)
+        let times = time_page(rt, book, &slip, &messages)?;
+        Ok(sum.with(times, u64::saturating_add))
+    })
 }
 
 // What reading the clock twice takes.
-fn time_clock(rt: &HostRuntime) -> anyhow::Result<u64> {
-    let mut least = u64::MAX;
-    for _ in 0..SUMS {
-        let mut sum = 0u64;
-        for _ in 0..PAGES {
-            let start = Instant::now(rt)?;
-            sum = sum.saturating_add(nanos_since(rt, &start)?);
-        }
-        least = least.min(sum / PAGES as u64);
-    }
-    Ok(least)
+fn time_clock(rt: &HostRuntime) -> io::Result<u64> {
+    (0..SUMS).try_fold(u64::MAX, |least: u64, _| -> io::Result<u64> {
+        let sum = (0..PAGES).try_fold(0, |sum: u64, _| -> io::Result<u64> {
+            Ok(sum.saturating_add(nanos_since(rt, &Instant::now(rt)?)?))
+        })?;
+        Ok(least.min(sum / PAGES as u64))
+    })
 }
 
 // The times of one call each: the least of many means.
@@ -185,10 +172,9 @@ pub fn time_calls<S: Sealer + Drop>(
     sealers: &mut [S],
 ) -> anyhow::Result<Times> {
     let mut book = Replica::open(*settings, own, Receipts::new());
-    let mut least = Times::all(u64::MAX);
-    for _ in 0..SUMS {
+    let least = (0..SUMS).try_fold(Times::all(u64::MAX), |least, _| -> anyhow::Result<Times> {
         let sum = time_pages(rt, heap, &mut book, settings, sealers)?;
-        least.least(&sum);
-    }
+        Ok(least.with(sum, u64::min))
+    })?;
     Ok(least.of_one(time_clock(rt)?))
 }

@@ -6,9 +6,9 @@ mod hashing;
 mod making;
 mod tables;
 
-use hashing::print_tag;
 use std::env;
 use tables::print_calls;
+use timing::print_tag;
 
 // `tag` asks for the time of one tag, any other word for those of a replica's calls.
 fn run(rt: &HostRuntime) -> anyhow::Result<()> {

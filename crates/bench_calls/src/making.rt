@@ -1,13 +1,12 @@
 // The messages of one height: what the others send to the replica that is measured.
+use base::certified::Certified;
 use base::counters::{Height, Round};
 use base::pools::Pool;
-use base::refusals::Refusal;
 use base::seals::Vote;
 use base::slips::Slip;
-use base::stages::Kind;
 use base::statements::Word;
 use playing::faults::Fault;
-use playing::forging;
+use playing::forging::Forger;
 use seal::sealers::Sealer;
 use std::alloc::Global;
 
@@ -27,14 +26,25 @@ pub struct Messages {
     pub decide: Vec<u8>,
 }
 
-fn changes<S: Sealer>(heap: Global, sealers: &mut [S], page: &Page) -> Result<Vec<Vec<u8>>, Fault> {
-    let mut made = Vec::new(heap);
-    let others = page.pool.size() - 1;
-    for sealer in sealers.iter_mut().take(others) {
-        let slip = Some(page.slip);
-        made.push(forging::change(heap, sealer, page.height, Round(0), slip)?)?;
+impl Page {
+    // That member makes messages of the first round.
+    fn forger<'a, S>(&self, heap: Global, sealer: &'a mut S) -> Forger<'a, S> {
+        Forger {
+            heap,
+            sealer,
+            height: self.height,
+            round: Round(0),
+        }
     }
-    Ok(made)
+}
+
+fn changes<S: Sealer>(heap: Global, sealers: &mut [S], page: &Page) -> Result<Vec<Vec<u8>>, Fault> {
+    let others = page.pool.size() - 1;
+    sealers
+        .iter_mut()
+        .take(others)
+        .map(|sealer| page.forger(heap, sealer).change(Some(page.slip)))
+        .try_collect(heap)
 }
 
 // The votes of a quorum on a word about the page.
@@ -44,35 +54,33 @@ fn votes<S: Sealer>(
     word: Word,
     page: &Page,
 ) -> Result<Vec<Vote>, Fault> {
-    let mut made = Vec::new(heap);
-    for sealer in sealers.iter_mut().take(page.pool.quorum()) {
-        let slip = Some(page.slip);
-        made.push(forging::vote(sealer, word, page.height, Round(0), slip)?)?;
-    }
-    Ok(made)
+    sealers
+        .iter_mut()
+        .take(page.pool.quorum())
+        .map(|sealer| Ok(page.forger(heap, sealer).vote(word, Some(page.slip))?))
+        .try_collect(heap)
 }
 
 fn certificate<S: Sealer>(
     heap: Global,
     sealers: &mut [S],
-    kind: Kind,
+    certified: Certified,
     page: &Page,
     votes: &[Vote],
 ) -> Result<Vec<u8>, Fault> {
     let leader = page.pool.leader(page.height, Round(0));
-    let Some(sealer) = sealers.get_mut(leader.0 as usize) else {
-        return Err(Fault::NoMember);
-    };
-    forging::certificate(heap, sealer, kind, page.height, Round(0), page.slip, votes)
+    let sealer = sealers.get_mut(leader.0 as usize).ok_or(Fault::NoMember)?;
+    page.forger(heap, sealer)
+        .certificate(certified, page.slip, votes)
 }
 
 // Makes them, with the sealers of all members.
 pub fn make<S: Sealer>(heap: Global, sealers: &mut [S], page: &Page) -> Result<Messages, Fault> {
     let changes = changes(heap, sealers, page)?;
     let named = votes(heap, sealers, Word::Cand, page)?;
-    let lock = certificate(heap, sealers, Kind::Lock, page, named.as_slice())?;
+    let lock = certificate(heap, sealers, Certified::Lock, page, named.as_slice())?;
     let commits = votes(heap, sealers, Word::Cmit, page)?;
-    let decide = certificate(heap, sealers, Kind::Decide, page, commits.as_slice())?;
+    let decide = certificate(heap, sealers, Certified::Decide, page, commits.as_slice())?;
     Ok(Messages {
         changes,
         lock,

@@ -3,7 +3,6 @@ use crate::calls::{Times, time_calls};
 use crate::hashing::{Tags, time_of_tags};
 use base::refusals::Refusal;
 use holding::settings::Settings;
-use playing::faults::Fault;
 use playing::keys::{row, single};
 use playing::making::settings;
 use replica::replicas::Replica;
@@ -14,13 +13,6 @@ use seal::single::SingleKey;
 use std::mem;
 
 const SEALS: u32 = 4_000_000_000;
-
-fn made<T>(tried: Result<T, Refusal>) -> anyhow::Result<T> {
-    match tried {
-        Ok(made) => Ok(made),
-        Err(why) => Err(Fault::Refused(why).into()),
-    }
-}
 
 // One line: the call, its time, how often it goes into a second, the time of its tags alone and their share.
 fn print_call(rt: &HostRuntime, name: &str, nanos: u64, tags: Tags) -> anyhow::Result<()> {
@@ -44,31 +36,54 @@ fn print_pool(
     let size = settings.pool.size();
     let look = 1 + settings.pool.quorum() as u32;
     println!(rt; "| **{size} members, {kind}** | | | | | | |")?;
-    let (short, long) = (make, make);
-    print_call(rt, "begin", times.begin, Tags { short, long })?;
-    let (short, long) = (1, 1);
-    print_call(rt, "change", times.change, Tags { short, long })?;
-    let (short, long) = (0, look.saturating_add(make));
-    print_call(rt, "lock", times.lock, Tags { short, long })?;
-    let (short, long) = (0, look);
-    print_call(rt, "decide", times.decide, Tags { short, long })
+    let looks = look.saturating_add(make);
+    let lines = [
+        (
+            "begin",
+            times.begin,
+            Tags {
+                short: make,
+                long: make,
+            },
+        ),
+        ("change", times.change, Tags { short: 1, long: 1 }),
+        (
+            "lock",
+            times.lock,
+            Tags {
+                short: 0,
+                long: looks,
+            },
+        ),
+        (
+            "decide",
+            times.decide,
+            Tags {
+                short: 0,
+                long: look,
+            },
+        ),
+    ];
+    for (name, nanos, tags) in lines {
+        print_call(rt, name, nanos, tags)?;
+    }
+    Ok(())
 }
 
-fn time_single(rt: &HostRuntime, settings: &Settings, size: u8) -> anyhow::Result<Times> {
+// The times of a pool of that size, with sealers of one kind.
+fn time_pool<S: Sealer + Drop, F: Fn(u8, u32) -> Result<S, Refusal>>(
+    rt: &HostRuntime,
+    settings: &Settings,
+    size: u8,
+    sealer: F,
+) -> anyhow::Result<Times>
+    requires { F.IsAlwaysCallable sealer }
+{
     let mut sealers = Vec::new(rt.alloc());
     for member in 0..size {
-        sealers.push(made(single(member, SEALS))?)?;
+        sealers.push(sealer(member, SEALS)?)?;
     }
-    let own = made(single(size.saturating_sub(1), SEALS))?;
-    time_calls(rt, rt.alloc(), settings, own, sealers.as_mut_slice())
-}
-
-fn time_row(rt: &HostRuntime, settings: &Settings, size: u8) -> anyhow::Result<Times> {
-    let mut sealers = Vec::new(rt.alloc());
-    for member in 0..size {
-        sealers.push(made(row(member, SEALS))?)?;
-    }
-    let own = made(row(size.saturating_sub(1), SEALS))?;
+    let own = sealer(size.saturating_sub(1), SEALS)?;
     time_calls(rt, rt.alloc(), settings, own, sealers.as_mut_slice())
 }
 
@@ -76,14 +91,16 @@ pub fn print_calls(rt: &HostRuntime) -> anyhow::Result<()> {
     println!(rt; "| call | ns | calls a second | tags | ns of the tags alone | share | mixed |")?;
     println!(rt; "|---|---|---|---|---|---|---|")?;
     for size in [4u8, 7, 10] {
-        let settings = made(settings(size as u32))?;
-        let times = time_single(rt, &settings, size)?;
+        let settings = settings(size as u32)?;
+        let times = time_pool(rt, &settings, size, single)?;
         print_pool(rt, "seals of one tag", &settings, &times, 1)?;
-        let times = time_row(rt, &settings, size)?;
+        let times = time_pool(rt, &settings, size, row)?;
         print_pool(rt, "seals of ten tags", &settings, &times, 10)?;
     }
-    let single = mem::size_of::<Replica<SingleKey, Receipts>>();
-    let row = mem::size_of::<Replica<KeyRow, Receipts>>();
-    println!(rt; "a replica: {single} bytes with single keys, {row} with a row")?;
+    println!(rt;
+        "a replica: {} bytes with single keys, {} with a row",
+        mem::size_of::<Replica<SingleKey, Receipts>>(),
+        mem::size_of::<Replica<KeyRow, Receipts>>()
+    )?;
     Ok(())
 }

@@ -2,6 +2,7 @@
 use base::certified::Certified;
 use base::counters::{Height, Member, Round};
 use base::pools::Pool;
+use base::refusals::Refusal;
 use base::seals::{Seal, Vote};
 use base::slips::{Mark, Slip};
 use base::stages::Kind;
@@ -12,20 +13,18 @@ use outbox::writers::{write_certificate, write_change, write_commit, write_relea
 use std::process::Abort;
 use std::test::Fail;
 
-pub const FORMAT: Format = Format {
+// How large the tests' outboxes are.
+pub const ROOM: usize = 256;
+
+// Four members, and seals of 8 bytes.
+pub const FOUR: Format = Format {
     pool: Pool::Four,
     seal_len: 8,
 };
 
-// How large the tests' outboxes are.
-pub const ROOM: usize = 256;
-
 // Until there are sealers, a seal is the member's number, a letter and six zero bytes.
 pub fn seal_of(member: u8, letter: u8) -> Result<Seal, Fail> {
-    match Seal::new(&[member, letter, 0, 0, 0, 0, 0, 0]) {
-        Some(seal) => Ok(seal),
-        None => Err(Fail::new("a seal has 1 to 80 bytes")),
-    }
+    Ok(Seal::new(&[member, letter, 0, 0, 0, 0, 0, 0]).ok_or("a seal has 1 to 80 bytes")?)
 }
 
 pub fn vote_of(member: u8) -> Result<Vote, Fail> {
@@ -58,87 +57,66 @@ pub fn taken<'a>(rt: &impl Abort, out: &'a [u8], len: usize) -> &'a [u8] {
     &out[0..len]
 }
 
+// What a writer appends to an empty outbox; gives back its length.
+pub fn length_of<F>(out: &mut [u8], write: F) -> Result<usize, Fail>
+where
+    F: FnOnce(&mut [u8], &mut Fill) -> Result<(), Refusal>,
+    requires { F.IsAlwaysCallable write }
+{
+    let mut fill = Fill { len: 0 };
+    write(out, &mut fill)?;
+    Ok(fill.len)
+}
+
 // A lock of that height and round with the seals of three members in that order; gives back its length.
-pub fn lock_by(
+pub fn lock_by(out: &mut [u8], head: Head, own: u8, members: [u8; 3]) -> Result<usize, Fail> {
+    certificate(out, Certified::Lock, head, own, members)
+}
+
+fn certificate(
     out: &mut [u8],
+    certified: Certified,
     head: Head,
     own: u8,
-    first: u8,
-    second: u8,
-    third: u8,
+    members: [u8; 3],
 ) -> Result<usize, Fail> {
-    let votes = [vote_of(first)?, vote_of(second)?, vote_of(third)?];
-    certified_by(out, Certified::Lock, head, own, &votes)
+    let votes = members.try_map(vote_of)?;
+    let slip = slip_with(own);
+    let seal = seal_of(head.sender.0, b'A')?;
+    length_of(out, |out, fill| {
+        write_certificate(out, fill, certified, head, &slip, &seal, &votes)
+    })
 }
 
 // A release of a lock of that height; gives back its length.
 pub fn release_of(rt: &impl Abort, out: &mut [u8], head: Head, height: u32) -> Result<usize, Fail> {
     let mut inner = [0u8; ROOM];
-    let n = lock_by(&mut inner, head_at(1, height, 9), 0x22, 0, 1, 3)?;
-    let mut fill = Fill { len: 0 };
+    let n = lock_by(&mut inner, head_at(1, height, 9), 0x22, [0, 1, 3])?;
+    let lock = taken(rt, &inner, n);
     let seal = seal_of(head.sender.0, b'A')?;
-    write_release(out, &mut fill, head, taken(rt, &inner, n), &seal)?;
-    Ok(fill.len)
-}
-
-// A lock, select or decide on a slip with these votes; gives back its length.
-fn certified_by(
-    out: &mut [u8],
-    certified: Certified,
-    head: Head,
-    own: u8,
-    votes: &[Vote],
-) -> Result<usize, Fail> {
-    let mut fill = Fill { len: 0 };
-    let seal = seal_of(head.sender.0, b'A')?;
-    write_certificate(
-        out,
-        &mut fill,
-        certified,
-        head,
-        &slip_with(own),
-        &seal,
-        votes,
-    )?;
-    Ok(fill.len)
-}
-
-fn by_sender(out: &mut [u8], kind: Kind, head: Head) -> Result<usize, Fail> {
-    let mut fill = Fill { len: 0 };
-    let a = seal_of(head.sender.0, b'A')?;
-    let b = seal_of(head.sender.0, b'B')?;
-    let slip = slip_with(0x22);
-    if kind == Kind::Change {
-        write_change(out, &mut fill, head, &Some(slip), &a, &b)?;
-    } else {
-        write_commit(out, &mut fill, head, &slip, &a)?;
-    }
-    Ok(fill.len)
-}
-
-fn by_leader(out: &mut [u8], certified: Certified, head: Head) -> Result<usize, Fail> {
-    let votes = [vote_of(0)?, vote_of(1)?, vote_of(3)?];
-    certified_by(out, certified, head, 0x22, &votes)
+    length_of(out, |out, fill| write_release(out, fill, head, lock, &seal))
 }
 
 // A message of that kind, well written; gives back its length.
 pub fn written(rt: &impl Abort, out: &mut [u8], kind: Kind, head: Head) -> Result<usize, Fail> {
+    let a = seal_of(head.sender.0, b'A')?;
+    let b = seal_of(head.sender.0, b'B')?;
+    let slip = slip_with(0x22);
     match kind {
-        Kind::Change | Kind::Commit => by_sender(out, kind, head),
-        Kind::Lock => by_leader(out, Certified::Lock, head),
-        Kind::Select => by_leader(out, Certified::Select, head),
-        Kind::Decide => by_leader(out, Certified::Decide, head),
+        Kind::Change => length_of(out, |out, fill| {
+            write_change(out, fill, head, &Some(slip), &a, &b)
+        }),
+        Kind::Lock => lock_by(out, head, 0x22, [0, 1, 3]),
+        Kind::Select => certificate(out, Certified::Select, head, 0x22, [0, 1, 3]),
+        Kind::Commit => length_of(out, |out, fill| write_commit(out, fill, head, &slip, &a)),
+        Kind::Decide => certificate(out, Certified::Decide, head, 0x22, [0, 1, 3]),
         Kind::Release => release_of(rt, out, head, head.height.0),
     }
 }
 
 // Reading refuses with 1.
 pub fn misshapen(rt: &impl Abort, message: &[u8]) -> Result<(), Fail> {
-    match FORMAT.parse(message) {
-        Ok(_) => Err(Fail::new("a misshapen message was read")),
-        Err(refusal) => {
-            assert_eq!(rt; refusal.number(), 1);
-            Ok(())
-        },
-    }
+    let refused = FOUR.parse(message).err();
+    assert_eq!(rt; refused.map(Refusal::number), Some(1));
+    Ok(())
 }

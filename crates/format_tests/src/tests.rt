@@ -3,6 +3,7 @@ use crate::samples::*;
 use base::certified::Certified;
 use base::counters::Member;
 use base::pools::Pool;
+use base::refusals::Refusal;
 use base::seals::{Seal, Vote};
 use base::slips::Slip;
 use base::stages::Kind;
@@ -46,14 +47,10 @@ fn is_part(
 // Seals of members 0, 1 and 3, one after the other from a place on.
 fn is_votes(rt: &impl Abort, votes: Reader<'_>, from: usize) -> Result<(), Fail> {
     let mut votes = votes;
-    let mut offset = from;
-    for member in [0u8, 1, 3] {
-        let Some(vote) = votes.next() else {
-            return Err(Fail::new("a seal is missing"));
-        };
+    for (member, offset) in [0u8, 1, 3].into_iter().zip((from..usize::MAX).step_by(8)) {
+        let vote = votes.next().ok_or("a seal is missing")?;
         assert_eq!(rt; vote.member.0, member);
         is_part(rt, vote.part, offset, member, b'V')?;
-        offset = offset.saturating_add(8);
     }
     assert!(rt; votes.finished());
     Ok(())
@@ -103,7 +100,7 @@ fn each_kind_reads_back(rt: HostRuntime) -> Result<(), Fail> {
     for kind in KINDS {
         let mut out = [0u8; ROOM];
         let n = written(&rt, &mut out, kind, head_at(2, 5, 3))?;
-        let m = FORMAT.parse(taken(&rt, &out, n))?;
+        let m = FOUR.parse(taken(&rt, &out, n))?;
         is_head(&rt, m.head, 2, 5, 3);
         is_content(&rt, kind, m.holds)?;
         for short in 0..n {
@@ -173,7 +170,7 @@ fn limits_of_the_head(rt: HostRuntime) -> Result<(), Fail> {
     ] {
         let mut out = [0u8; ROOM];
         let n = written(&rt, &mut out, Kind::Change, good)?;
-        let m = FORMAT.parse(taken(&rt, &out, n))?;
+        let m = FOUR.parse(taken(&rt, &out, n))?;
         is_head(&rt, m.head, good.sender.0, good.height.0, good.round.0);
     }
     for bad in [
@@ -203,7 +200,7 @@ fn locks_that_are_refused(rt: HostRuntime) -> Result<(), Fail> {
     let head = head_at(2, 5, 3);
     for order in [[0u8, 3, 1], [1, 0, 3], [0, 0, 1], [3, 3, 3]] {
         let mut out = [0u8; ROOM];
-        let n = lock_by(&mut out, head, 0x22, order[0], order[1], order[2])?;
+        let n = lock_by(&mut out, head, 0x22, order)?;
         misshapen(&rt, taken(&rt, &out, n))?;
     }
     let mut out = [0u8; ROOM];
@@ -214,22 +211,22 @@ fn locks_that_are_refused(rt: HostRuntime) -> Result<(), Fail> {
 // One seal fewer than a quorum's, and one more.
 #[test]
 fn locks_of_other_counts(rt: HostRuntime) -> Result<(), Fail> {
-    let votes = [vote_of(0)?, vote_of(1)?, vote_of(2)?, vote_of(3)?];
+    let votes = [0, 1, 2, 3].try_map(vote_of)?;
     let own = seal_of(2, b'A')?;
-    for few in [2usize, 4] {
+    for some in [&votes[..2], &votes[..4]] {
         let mut out = [0u8; ROOM];
-        let mut fill = Fill { len: 0 };
-        assert!(rt; few <= 4);
-        write_certificate(
-            &mut out,
-            &mut fill,
-            Certified::Lock,
-            head_at(2, 5, 3),
-            &slip_with(0x22),
-            &own,
-            &votes[0..few],
-        )?;
-        misshapen(&rt, taken(&rt, &out, fill.len))?;
+        let n = length_of(&mut out, |out, fill| {
+            write_certificate(
+                out,
+                fill,
+                Certified::Lock,
+                head_at(2, 5, 3),
+                &slip_with(0x22),
+                &own,
+                some,
+            )
+        })?;
+        misshapen(&rt, taken(&rt, &out, n))?;
     }
     Ok(())
 }
@@ -243,17 +240,13 @@ fn lengths_of_four(rt: HostRuntime) -> Result<(), Fail> {
     assert_eq!(rt; written(&rt, &mut out, Kind::Commit, head)?, 100);
     assert_eq!(rt; written(&rt, &mut out, Kind::Lock, head)?, 136);
     assert_eq!(rt; written(&rt, &mut out, Kind::Release, head)?, 164);
-    let mut fill = Fill { len: 0 };
-    write_change(
-        &mut out,
-        &mut fill,
-        head,
-        &None,
-        &seal_of(2, b'A')?,
-        &seal_of(2, b'B')?,
-    )?;
-    assert_eq!(rt; fill.len, 36);
-    match FORMAT.parse(taken(&rt, &out, 36))?.holds {
+    let a = seal_of(2, b'A')?;
+    let b = seal_of(2, b'B')?;
+    let n = length_of(&mut out, |out, fill| {
+        write_change(out, fill, head, &None, &a, &b)
+    })?;
+    assert_eq!(rt; n, 36);
+    match FOUR.parse(taken(&rt, &out, 36))?.holds {
         Holds::Change { page, rchg, cand } => {
             assert!(rt; page.is_none());
             is_part(&rt, rchg, 20, 2, b'A')?;
@@ -263,49 +256,37 @@ fn lengths_of_four(rt: HostRuntime) -> Result<(), Fail> {
     }
 }
 
-fn by(member: u8, seal: Seal) -> Vote {
-    Vote {
-        member: Member(member),
-        seal,
-    }
-}
-
 // The lengths of written messages: ten members with seals of 80 bytes.
 #[test]
 fn lengths_of_ten(rt: HostRuntime) -> Result<(), Fail> {
     let seal = Seal::new(&[7; 80]).ok_or("a seal has 1 to 80 bytes")?;
-    let votes = [
-        by(0, seal),
-        by(1, seal),
-        by(3, seal),
-        by(4, seal),
-        by(6, seal),
-        by(8, seal),
-        by(9, seal),
-    ];
+    let votes = [0, 1, 3, 4, 6, 8, 9].map(|member| Vote {
+        member: Member(member),
+        seal,
+    });
     let mut lock = [0u8; 1024];
-    let mut fill = Fill { len: 0 };
-    write_certificate(
-        &mut lock,
-        &mut fill,
-        Certified::Lock,
-        head_at(8, 5, 3),
-        &slip_with(0x22),
-        &seal,
-        &votes,
-    )?;
-    assert_eq!(rt; fill.len, 760);
+    let n = length_of(&mut lock, |out, fill| {
+        write_certificate(
+            out,
+            fill,
+            Certified::Lock,
+            head_at(8, 5, 3),
+            &slip_with(0x22),
+            &seal,
+            &votes,
+        )
+    })?;
+    assert_eq!(rt; n, 760);
+    let inner = taken(&rt, &lock, 760);
     let mut out = [0u8; 1024];
-    let mut end = Fill { len: 0 };
-    write_release(
-        &mut out,
-        &mut end,
-        head_at(2, 5, 4),
-        taken(&rt, &lock, 760),
-        &seal,
-    )?;
-    assert_eq!(rt; end.len, 860);
-    let ten = Format { pool: Pool::Ten, seal_len: 80 };
+    let n = length_of(&mut out, |out, fill| {
+        write_release(out, fill, head_at(2, 5, 4), inner, &seal)
+    })?;
+    assert_eq!(rt; n, 860);
+    let ten = Format {
+        pool: Pool::Ten,
+        seal_len: 80,
+    };
     let m = ten.parse(taken(&rt, &out, 860))?;
     is_head(&rt, m.head, 2, 5, 4);
     Ok(())
@@ -324,7 +305,7 @@ fn fills(rt: HostRuntime) -> Result<(), Fail> {
                 assert!(rt; start <= 7);
                 assert_eq!(rt; fill.len, start + 100);
                 assert!(rt; taken(&rt, &out, start) == taken(&rt, &[0xff; 107], start));
-                let _ = FORMAT.parse(&out[start..start + 100])?;
+                let _ = FOUR.parse(&out[start..start + 100])?;
             }
             Err(refusal) => {
                 assert!(rt; start > 7);
@@ -343,11 +324,11 @@ fn drafts(rt: HostRuntime) {
     let mut out = [0u8; 16];
     let mut fill = Fill { len: 5 };
     {
-        let draft = Draft::begin(&mut fill);
+        let mut draft = Draft::begin(&mut fill);
         draft.fill.add(&mut out, b"gone");
     }
     assert_eq!(rt; fill.len, 5);
-    let draft = Draft::begin(&mut fill);
+    let mut draft = Draft::begin(&mut fill);
     draft.fill.add(&mut out, b"kept");
     draft.fill.add(&mut out, b"too long for it");
     draft.finish();
@@ -361,9 +342,9 @@ fn higher_locks(rt: HostRuntime) -> Result<(), Fail> {
     let mut low = [0u8; ROOM];
     let mut high = [0u8; ROOM];
     let mut same = [0u8; ROOM];
-    let n = lock_by(&mut low, head_at(1, 5, 0), 0x22, 0, 1, 3)?;
-    let _ = lock_by(&mut high, head_at(2, 6, 1), 0x33, 0, 1, 2)?;
-    let _ = lock_by(&mut same, head_at(3, 7, 0), 0x44, 1, 2, 3)?;
+    let n = lock_by(&mut low, head_at(1, 5, 0), 0x22, [0, 1, 3])?;
+    let _ = lock_by(&mut high, head_at(2, 6, 1), 0x33, [0, 1, 2])?;
+    let _ = lock_by(&mut same, head_at(3, 7, 0), 0x44, [1, 2, 3])?;
     compared(
         &rt,
         taken(&rt, &low, n),
@@ -382,21 +363,13 @@ fn compared(rt: &impl Abort, low: &[u8], high: &[u8], same: &[u8]) -> Result<(),
 }
 
 fn handed_on(rt: &impl Abort, kept: &[u8], received: &[u8], higher: &[u8]) -> Result<(), Fail> {
-    match FORMAT.higher_lock(kept, received) {
-        Ok(lock) => {
-            assert!(rt; lock == higher);
-            Ok(())
-        },
-        Err(refusal) => Err(Fail::new(refusal.number())),
-    }
+    let lock = FOUR.higher_lock(kept, received)?;
+    assert!(rt; lock == higher);
+    Ok(())
 }
 
 fn not_compared(rt: &impl Abort, kept: &[u8], received: &[u8]) -> Result<(), Fail> {
-    match FORMAT.higher_lock(kept, received) {
-        Ok(_) => Err(Fail::new("a misshapen lock was compared")),
-        Err(refusal) => {
-            assert_eq!(rt; refusal.number(), 1);
-            Ok(())
-        },
-    }
+    let refused = FOUR.higher_lock(kept, received).err();
+    assert_eq!(rt; refused.map(Refusal::number), Some(1));
+    Ok(())
 }

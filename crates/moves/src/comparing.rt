@@ -22,9 +22,7 @@ pub fn higher_of<'a, S: Sealer, R: Rulebook>(
     match &core.state.held {
         Some(held) => format.higher_lock(held.as_slice(), received),
         None => {
-            format
-                .parse_lock(received)
-                .ok_or(Refusal::Misshapen)?;
+            format.parse_lock(received).ok_or(Refusal::Misshapen)?;
             Ok(received)
         }
     }

@@ -1,15 +1,12 @@
 // A desk: the replicas of a pool, and every message that was written. Nothing is delivered but by a call.
 use crate::faults::Fault;
 use crate::looks::{Counts, Look, Told};
-use crate::seats::{Seat, Turn};
-use base::refusals::Refusal;
+use crate::seats::{Answered, Seat};
 use base::slips::{Mark, Slip};
 use holding::settings::Settings;
 use outbox::drafts::Fill;
-use protocol::answers::Answer;
 use seal::sealers::Sealer;
 use std::alloc::Global;
-use std::mem;
 
 const ROOM: usize = 1024;
 
@@ -23,6 +20,12 @@ pub struct Desk<S> {
     counts: Counts,
 }
 
+// The message of that index.
+fn message(messages: &[Vec<u8>], index: usize) -> Result<&[u8], Fault> {
+    let message = messages.get(index).ok_or(Fault::NoMessage)?;
+    Ok(message.as_slice())
+}
+
 impl<S: Sealer + Drop> Desk<S> {
     // An empty desk, which lends outboxes of 1,024 bytes.
     pub fn new(heap: Global) -> Desk<S> {
@@ -31,7 +34,7 @@ impl<S: Sealer + Drop> Desk<S> {
             seats: Vec::new(heap),
             messages: Vec::new(heap),
             taken: 0,
-            counts: Counts::none(),
+            counts: Counts::default(),
         }
     }
 
@@ -48,119 +51,79 @@ impl<S: Sealer + Drop> Desk<S> {
         Ok(index)
     }
 
-    // Counts a call, and takes what it wrote out of the outbox.
-    fn close_call(
-        &mut self,
-        answer: Result<Answer, Refusal>,
-        out: &[u8],
-        start: usize,
-        fill: &Fill,
-    ) -> Result<Told, Fault> {
-        let mut wrote = None;
-        if start < fill.len && fill.len <= out.len() {
-            wrote = Some(self.post(&out[start..fill.len])?);
-        }
+    fn seat(&self, member: usize) -> Result<&Seat<S>, Fault> {
+        self.seats.get(member).ok_or(Fault::NoMember)
+    }
+
+    fn seat_mut(&mut self, member: usize) -> Result<&mut Seat<S>, Fault> {
+        self.seats.get_mut(member).ok_or(Fault::NoMember)
+    }
+
+    // One call at a member's seat, which is lent the messages and an outbox: it is counted, and what it wrote is kept.
+    fn call<F>(&mut self, member: usize, ask: F) -> Result<Told, Fault>
+    where
+        F: FnOnce(&mut Seat<S>, &[Vec<u8>], &mut [u8], &mut Fill) -> Answered,
+        requires { F.IsAlwaysCallable ask }
+    {
+        let seat = self.seats.get_mut(member).ok_or(Fault::NoMember)?;
+        let start = self.taken;
+        let mut out = [0u8; ROOM];
+        let mut fill = Fill { len: start };
+        let answer = ask(seat, self.messages.as_slice(), &mut out, &mut fill)?;
+        let wrote = match out.get(start..fill.len) {
+            Some(bytes) if !bytes.is_empty() => Some(self.post(bytes)?),
+            _ => None,
+        };
         let told = Told { answer, wrote };
         self.counts.note(&told);
         Ok(told)
     }
 
-    // Counts a call that has no outbox.
-    fn close_silent(&mut self, answer: Result<Answer, Refusal>) -> Result<Told, Fault> {
-        let told = Told {
-            answer,
-            wrote: None,
-        };
-        self.counts.note(&told);
-        Ok(told)
-    }
-
     pub fn offer(&mut self, member: usize, slip: &Slip) -> Result<Told, Fault> {
-        let Some(seat) = self.seats.get_mut(member) else {
-            return Err(Fault::NoMember);
-        };
-        let answer = seat.replica.offer(slip);
-        self.close_silent(answer)
+        self.call(member, |seat, _, _, _| Ok(seat.replica.offer(slip)))
     }
 
     pub fn begin(&mut self, member: usize) -> Result<Told, Fault> {
-        let Some(seat) = self.seats.get_mut(member) else {
-            return Err(Fault::NoMember);
-        };
-        let mut out = [0u8; ROOM];
-        let start = self.taken;
-        let mut fill = Fill { len: start };
-        let answer = seat.replica.begin(&mut out, &mut fill);
-        self.close_call(answer, &out, start, &fill)
+        self.call(
+            member,
+            |seat, _, out, fill| Ok(seat.replica.begin(out, fill)),
+        )
     }
 
     pub fn tick(&mut self, member: usize, ticks: u32) -> Result<Told, Fault> {
-        let Some(seat) = self.seats.get_mut(member) else {
-            return Err(Fault::NoMember);
-        };
-        let mut out = [0u8; ROOM];
-        let start = self.taken;
-        let mut fill = Fill { len: start };
-        let answer = seat.replica.tick(ticks, &mut out, &mut fill);
-        self.close_call(answer, &out, start, &fill)
+        self.call(
+            member,
+            |seat, _, out, fill| Ok(seat.replica.tick(ticks, out, fill)),
+        )
     }
 
     // A member takes the message of that index.
     pub fn take(&mut self, member: usize, index: usize) -> Result<Told, Fault> {
-        let Some(message) = self.messages.get(index) else {
-            return Err(Fault::NoMessage);
-        };
-        let Some(seat) = self.seats.get_mut(member) else {
-            return Err(Fault::NoMember);
-        };
-        let mut out = [0u8; ROOM];
-        let start = self.taken;
-        let mut fill = Fill { len: start };
-        let answer = seat.replica.take(message.as_slice(), &mut out, &mut fill);
-        self.close_call(answer, &out, start, &fill)
+        let _ = self.message(index)?;
+        self.call(member, |seat, messages, out, fill| {
+            Ok(seat.replica.take(message(messages, index)?, out, fill))
+        })
     }
 
     // A member opens its turn; one that it had is let go.
     pub fn open_turn(&mut self, member: usize) -> Result<Told, Fault> {
-        let Some(seat) = self.seats.get_mut(member) else {
-            return Err(Fault::NoMember);
-        };
-        let answer = seat.open_turn();
-        self.close_silent(answer)
+        self.call(member, |seat, _, _, _| Ok(seat.open_turn()))
     }
 
     pub fn put_forward(&mut self, member: usize) -> Result<Told, Fault> {
-        let Some(seat) = self.seats.get_mut(member) else {
-            return Err(Fault::NoMember);
-        };
-        let mut out = [0u8; ROOM];
-        let start = self.taken;
-        let mut fill = Fill { len: start };
-        let answer = seat.put_forward(&mut out, &mut fill)?;
-        self.close_call(answer, &out, start, &fill)
+        self.call(member, |seat, _, out, fill| seat.put_forward(out, fill))
     }
 
     // A member gives the message of that index to its turn.
     pub fn take_commit(&mut self, member: usize, index: usize) -> Result<Told, Fault> {
-        let Some(message) = self.messages.get(index) else {
-            return Err(Fault::NoMessage);
-        };
-        let Some(seat) = self.seats.get_mut(member) else {
-            return Err(Fault::NoMember);
-        };
-        let answer = seat.take_commit(message.as_slice())?;
-        self.close_silent(answer)
+        let _ = self.message(index)?;
+        self.call(member, |seat, messages, _, _| {
+            seat.take_commit(message(messages, index)?)
+        })
     }
 
     pub fn close(&mut self, member: usize) -> Result<Told, Fault> {
-        let Some(seat) = self.seats.get_mut(member) else {
-            return Err(Fault::NoMember);
-        };
-        let mut out = [0u8; ROOM];
-        let start = self.taken;
-        let mut fill = Fill { len: start };
-        let answer = seat.close(&mut out, &mut fill)?;
-        self.close_call(answer, &out, start, &fill)
+        self.call(member, |seat, _, out, fill| seat.close(out, fill))
     }
 
     // From now on so many bytes are left in a lent outbox, 1,024 at most.
@@ -170,53 +133,32 @@ impl<S: Sealer + Drop> Desk<S> {
 
     // Lends so many of ten records to the member's turn from now on.
     pub fn lend_records(&mut self, member: usize, lent: usize) -> Result<(), Fault> {
-        let Some(seat) = self.seats.get_mut(member) else {
-            return Err(Fault::NoMember);
-        };
-        seat.lent = lent;
+        self.seat_mut(member)?.lent = lent;
         Ok(())
     }
 
     // Hands the turn of one member to another, whose own is let go.
     pub fn hand_turn(&mut self, from: usize, to: usize) -> Result<(), Fault> {
-        let Some(seat) = self.seats.get_mut(from) else {
-            return Err(Fault::NoMember);
-        };
-        let turn = mem::replace(&mut seat.turn, Turn::None);
-        let Some(seat) = self.seats.get_mut(to) else {
-            return Err(Fault::NoMember);
-        };
-        seat.turn = turn;
+        let turn = self.seat_mut(from)?.turn.take();
+        self.seat_mut(to)?.turn = turn;
         Ok(())
     }
 
     pub fn look(&self, member: usize) -> Result<Look, Fault> {
-        match self.seats.get(member) {
-            Some(seat) => Ok(seat.look()),
-            None => Err(Fault::NoMember),
-        }
+        Ok(self.seat(member)?.look())
     }
 
     pub fn last_mark(&self, member: usize) -> Result<Mark, Fault> {
-        match self.seats.get(member) {
-            Some(seat) => Ok(seat.replica.last_mark()),
-            None => Err(Fault::NoMember),
-        }
+        Ok(self.seat(member)?.replica.last_mark())
     }
 
     pub fn is_leader(&self, member: usize) -> Result<bool, Fault> {
-        match self.seats.get(member) {
-            Some(seat) => Ok(seat.replica.is_leader()),
-            None => Err(Fault::NoMember),
-        }
+        Ok(self.seat(member)?.replica.is_leader())
     }
 
     // The bytes of the message of that index.
     pub fn message(&self, index: usize) -> Result<&[u8], Fault> {
-        match self.messages.get(index) {
-            Some(message) => Ok(message.as_slice()),
-            None => Err(Fault::NoMessage),
-        }
+        message(self.messages.as_slice(), index)
     }
 
     // How many replicas there are.

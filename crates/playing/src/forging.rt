@@ -1,152 +1,104 @@
 // Messages made by hand and sealed by one sealer, as a lying member makes them.
 use crate::faults::Fault;
+use base::certified::Certified;
 use base::counters::{Height, Round};
 use base::refusals::Refusal;
 use base::seals::{Seal, Vote};
 use base::slips::Slip;
-use base::stages::Kind;
 use base::statements::{Statement, Word};
 use message::shapes::Head;
 use outbox::drafts::Fill;
-use outbox::writers::{
-    write_change, write_commit, write_decide, write_lock, write_release, write_select,
-};
+use outbox::writers::{write_certificate, write_change, write_commit, write_release};
 use seal::sealers::Sealer;
 use seal::stating::seal_statement;
 use std::alloc::Global;
 
 const ROOM: usize = 1024;
 
-// A seal on a statement with that word.
-pub fn sealed<S: Sealer>(
-    sealer: &mut S,
-    word: Word,
-    height: Height,
-    round: Round,
-    page: Option<Slip>,
-) -> Result<Seal, Refusal> {
-    let statement = Statement {
-        word,
-        height,
-        round,
-        page,
-    };
-    seal_statement(sealer, &statement)
+// A member that makes messages of one height and round.
+#[derive(Drop)]
+pub struct Forger<'a, S> {
+    pub heap: Global,
+    pub sealer: &'a mut S,
+    pub height: Height,
+    pub round: Round,
 }
 
-// The same with the name of the member that sealed.
-pub fn vote<S: Sealer>(
-    sealer: &mut S,
-    word: Word,
-    height: Height,
-    round: Round,
-    page: Option<Slip>,
-) -> Result<Vote, Refusal> {
-    let member = sealer.member();
-    match sealed(sealer, word, height, round, page) {
-        Ok(seal) => Ok(Vote { member, seal }),
-        Err(why) => Err(why),
+impl<S: Sealer> Forger<'_, S> {
+    // A seal on a statement with that word.
+    pub fn seal(&mut self, word: Word, page: Option<Slip>) -> Result<Seal, Refusal> {
+        let statement = Statement {
+            word,
+            height: self.height,
+            round: self.round,
+            page,
+        };
+        seal_statement(self.sealer, &statement)
     }
-}
 
-fn head_of<S: Sealer>(sealer: &S, height: Height, round: Round) -> Head {
-    Head {
-        sender: sealer.member(),
-        height,
-        round,
+    // The same with the name of the member that sealed.
+    pub fn vote(&mut self, word: Word, page: Option<Slip>) -> Result<Vote, Refusal> {
+        let member = self.sealer.member();
+        let seal = self.seal(word, page)?;
+        Ok(Vote { member, seal })
     }
-}
 
-// What was written to an outbox.
-fn written(heap: Global, out: &[u8], fill: &Fill) -> Result<Vec<u8>, Fault> {
-    if fill.len > out.len() {
-        return Err(Fault::NoMessage);
+    // What is written to an outbox, under the member's own head.
+    fn written<F>(&self, write: F) -> Result<Vec<u8>, Fault>
+    where
+        F: FnOnce(Head, &mut [u8], &mut Fill) -> Result<(), Refusal>,
+        requires { F.IsAlwaysCallable write }
+    {
+        let head = Head {
+            sender: self.sealer.member(),
+            height: self.height,
+            round: self.round,
+        };
+        let mut out = [0u8; ROOM];
+        let mut fill = Fill { len: 0 };
+        write(head, &mut out, &mut fill)?;
+        let message = out.get(..fill.len).ok_or(Fault::NoMessage)?;
+        Ok(message.to_vec(self.heap)?)
     }
-    Ok(out[0..fill.len].to_vec(heap)?)
-}
 
-// A change for a page or none.
-pub fn change<S: Sealer>(
-    heap: Global,
-    sealer: &mut S,
-    height: Height,
-    round: Round,
-    page: Option<Slip>,
-) -> Result<Vec<u8>, Fault> {
-    let rchg = sealed(sealer, Word::Rchg, height, round, page)?;
-    let cand = sealed(sealer, Word::Cand, height, round, page)?;
-    let mut out = [0u8; ROOM];
-    let mut fill = Fill { len: 0 };
-    let head = head_of(sealer, height, round);
-    write_change(&mut out, &mut fill, head, &page, &rchg, &cand)?;
-    written(heap, &out, &fill)
-}
-
-// A commit to a page.
-pub fn commit<S: Sealer>(
-    heap: Global,
-    sealer: &mut S,
-    height: Height,
-    round: Round,
-    page: Slip,
-) -> Result<Vec<u8>, Fault> {
-    let seal = sealed(sealer, Word::Cmit, height, round, Some(page))?;
-    let mut out = [0u8; ROOM];
-    let mut fill = Fill { len: 0 };
-    let head = head_of(sealer, height, round);
-    write_commit(&mut out, &mut fill, head, &page, &seal)?;
-    written(heap, &out, &fill)
-}
-
-// A release of whatever lock message it is given, which is said to be on that page.
-pub fn release<S: Sealer>(
-    heap: Global,
-    sealer: &mut S,
-    height: Height,
-    round: Round,
-    page: Slip,
-    lock: &[u8],
-) -> Result<Vec<u8>, Fault> {
-    let own = sealed(sealer, Word::Rlse, height, round, Some(page))?;
-    let mut out = [0u8; ROOM];
-    let mut fill = Fill { len: 0 };
-    let head = head_of(sealer, height, round);
-    write_release(&mut out, &mut fill, head, lock, &own)?;
-    written(heap, &out, &fill)
-}
-
-// A lock, a select or, for any other kind, a decide on a page, with the votes given.
-pub fn certificate<S: Sealer>(
-    heap: Global,
-    sealer: &mut S,
-    kind: Kind,
-    height: Height,
-    round: Round,
-    page: Slip,
-    votes: &[Vote],
-) -> Result<Vec<u8>, Fault> {
-    let word = match kind {
-        Kind::Lock => Word::Lock,
-        Kind::Select => Word::Slct,
-        _ => Word::Dcid,
-    };
-    let own = sealed(sealer, word, height, round, Some(page))?;
-    let mut out = [0u8; ROOM];
-    let mut fill = Fill { len: 0 };
-    let head = head_of(sealer, height, round);
-    match kind {
-        Kind::Lock => write_lock(&mut out, &mut fill, head, &page, &own, votes)?,
-        Kind::Select => write_select(&mut out, &mut fill, head, &page, &own, votes)?,
-        _ => write_decide(&mut out, &mut fill, head, &page, &own, votes)?,
+    // A change for a page or none.
+    pub fn change(&mut self, page: Option<Slip>) -> Result<Vec<u8>, Fault> {
+        let rchg = self.seal(Word::Rchg, page)?;
+        let cand = self.seal(Word::Cand, page)?;
+        self.written(|head, out, fill| write_change(out, fill, head, &page, &rchg, &cand))
     }
-    written(heap, &out, &fill)
+
+    // A commit to a page.
+    pub fn commit(&mut self, page: Slip) -> Result<Vec<u8>, Fault> {
+        let seal = self.seal(Word::Cmit, Some(page))?;
+        self.written(|head, out, fill| write_commit(out, fill, head, &page, &seal))
+    }
+
+    // A release of whatever lock message it is given, which is said to be on that page.
+    pub fn release(&mut self, page: Slip, lock: &[u8]) -> Result<Vec<u8>, Fault> {
+        let own = self.seal(Word::Rlse, Some(page))?;
+        self.written(|head, out, fill| write_release(out, fill, head, lock, &own))
+    }
+
+    // A lock, a select or a decide on a page, with the votes given.
+    pub fn certificate(
+        &mut self,
+        certified: Certified,
+        page: Slip,
+        votes: &[Vote],
+    ) -> Result<Vec<u8>, Fault> {
+        let own = self.seal(certified.word(), Some(page))?;
+        self.written(|head, out, fill| {
+            write_certificate(out, fill, certified, head, &page, &own, votes)
+        })
+    }
 }
 
 // A copy of a message with one byte turned; the same message where it is shorter.
 pub fn turned(heap: Global, message: &[u8], at: usize) -> Result<Vec<u8>, Fault> {
     let mut copy = message.to_vec(heap)?;
-    if at < copy.len() {
-        copy[at] ^= 1;
+    if let Some(byte) = copy.get_mut(at) {
+        *byte ^= 1;
     }
     Ok(copy)
 }

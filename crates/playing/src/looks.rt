@@ -14,28 +14,22 @@ pub struct Told {
 }
 
 impl Told {
-    // The number of the refusal; 0 where the call was taken.
-    pub fn number(&self) -> u8 {
-        match self.answer {
-            Ok(_) => 0,
-            Err(why) => why.number(),
-        }
+    // The number of the refusal; none where the call was taken.
+    pub fn number(&self) -> Option<u8> {
+        self.answer.err().map(Refusal::number)
     }
 
     // The page that was entered.
     pub fn page(&self) -> Option<Slip> {
         match self.answer {
-            Ok(Answer::Entered { height: _, slip }) => Some(slip),
+            Ok(Answer::Entered { slip, .. }) => Some(slip),
             _ => None,
         }
     }
 
     // The index of the message that was written; a fault where there is none.
     pub fn message(&self) -> Result<usize, Fault> {
-        match self.wrote {
-            Some(index) => Ok(index),
-            None => Err(Fault::NoMessage),
-        }
+        self.wrote.ok_or(Fault::NoMessage)
     }
 }
 
@@ -49,7 +43,7 @@ pub struct Look {
 }
 
 // How many calls were made, messages written, pages entered, and calls refused, by the number of the refusal.
-#[derive(Clone, Copy)]
+#[derive(Clone, Copy, Default)]
 pub struct Counts {
     pub calls: u32,
     pub messages: u32,
@@ -58,15 +52,6 @@ pub struct Counts {
 }
 
 impl Counts {
-    pub fn none() -> Counts {
-        Counts {
-            calls: 0,
-            messages: 0,
-            pages: 0,
-            refusals: [0; 20],
-        }
-    }
-
     // Counts a call.
     pub fn note(&mut self, told: &Told) {
         self.calls = self.calls.saturating_add(1);
@@ -76,19 +61,18 @@ impl Counts {
         if told.page().is_some() {
             self.pages = self.pages.saturating_add(1);
         }
-        let number = told.number() as usize;
-        if 0 < number && number < 20 {
-            self.refusals[number] = self.refusals[number].saturating_add(1);
+        if let Some(number) = told.number()
+            && let Some(count) = self.refusals.get_mut(number as usize)
+        {
+            *count = count.saturating_add(1);
         }
     }
 
     // How many calls were refused.
     pub fn refused(&self) -> u32 {
-        let mut sum = 0u32;
-        for count in self.refusals {
-            sum = sum.saturating_add(count);
-        }
-        sum
+        self.refusals
+            .iter()
+            .fold(0, |sum: u32, count| sum.saturating_add(*count))
     }
 
     // Adds the counts of another desk.
@@ -96,8 +80,8 @@ impl Counts {
         self.calls = self.calls.saturating_add(other.calls);
         self.messages = self.messages.saturating_add(other.messages);
         self.pages = self.pages.saturating_add(other.pages);
-        for i in 0..20 {
-            self.refusals[i] = self.refusals[i].saturating_add(other.refusals[i]);
+        for (mine, theirs) in self.refusals.iter_mut().zip(other.refusals.iter()) {
+            *mine = mine.saturating_add(*theirs);
         }
     }
 }

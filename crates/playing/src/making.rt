@@ -3,6 +3,7 @@ use base::counters::Height;
 use base::refusals::Refusal;
 use base::slips::{Mark, Slip};
 use holding::settings::Settings;
+use holding::times::Times;
 use holding::trials::Terms;
 
 // The mark on which the book begins.
@@ -16,11 +17,13 @@ pub fn terms(members: u32) -> Terms {
         members,
         start_height: Height(1),
         start_mark: start_mark(),
-        d0: 10,
-        d1: 40,
-        d2: 20,
-        d3: 20,
-        g: 20,
+        times: Times {
+            d0: 10,
+            d1: 40,
+            d2: 20,
+            d3: 20,
+            g: 20,
+        },
     }
 }
 
@@ -30,9 +33,10 @@ pub fn settings(members: u32) -> Result<Settings, Refusal> {
 
 // A book that begins at another height.
 pub fn settings_from(members: u32, height: u32) -> Result<Settings, Refusal> {
-    let mut asked = terms(members);
-    asked.start_height = Height(height);
-    Settings::new(&asked)
+    Settings::new(&Terms {
+        start_height: Height(height),
+        ..terms(members)
+    })
 }
 
 // A slip on the page with that mark; its own mark repeats one byte.

@@ -9,12 +9,13 @@ use protocol::answers::Answer;
 use replica::replicas::Replica;
 use rules::receipts::Receipts;
 use seal::sealers::Sealer;
-use std::mem;
 use turns::phases::{Counting, Gathering};
+
+// A fault where the call was not made, and otherwise what the replica answered.
+pub type Answered = Result<Result<Answer, Refusal>, Fault>;
 
 // The turn of a member, in its phase.
 pub enum Turn {
-    None,
     Gathers(Gathering),
     Counts(Counting),
 }
@@ -22,17 +23,17 @@ pub enum Turn {
 impl Drop for Turn {
     fn drop(self) {
         match self {
-            Turn::None => {}
             Turn::Gathers(turn) => turn.abandon(),
             Turn::Counts(turn) => turn.abandon(),
         }
     }
 }
 
+// Kept: two methods, since each phase is a type of its own, and a trait over the two would be longer.
 impl Turn {
+    // The turn where it gathers; else it is let go.
     fn gathering(self) -> Option<Gathering> {
         match self {
-            Turn::None => None,
             Turn::Gathers(turn) => Some(turn),
             Turn::Counts(turn) => {
                 turn.abandon();
@@ -41,9 +42,9 @@ impl Turn {
         }
     }
 
+    // The turn where it counts; else it is let go.
     fn counting(self) -> Option<Counting> {
         match self {
-            Turn::None => None,
             Turn::Gathers(turn) => {
                 turn.abandon();
                 None
@@ -54,14 +55,15 @@ impl Turn {
 }
 
 // The first n records, or all where there are fewer.
-fn first(records: &[CommitRecord], n: usize) -> &[CommitRecord] {
-    &records[0..n.min(records.len())]
+fn first(records: &mut [CommitRecord], n: usize) -> &mut [CommitRecord] {
+    let n = n.min(records.len());
+    &mut records[..n]
 }
 
 #[derive(Drop)]
 pub struct Seat<S> {
     pub replica: Replica<S, Receipts>,
-    pub turn: Turn,
+    pub turn: Option<Turn>,
     pub records: [CommitRecord; 10],
     // how many of the records are lent
     pub lent: usize,
@@ -72,7 +74,7 @@ impl<S: Sealer + Drop> Seat<S> {
     pub fn new(settings: Settings, sealer: S) -> Seat<S> {
         Seat {
             replica: Replica::open(settings, sealer, Receipts::new()),
-            turn: Turn::None,
+            turn: None,
             records: [CommitRecord::blank(); 10],
             lent: 10,
         }
@@ -89,72 +91,53 @@ impl<S: Sealer + Drop> Seat<S> {
 
     // Opens a turn; one that it had is let go.
     pub fn open_turn(&mut self) -> Result<Answer, Refusal> {
-        match self.replica.open_turn() {
-            Ok(turn) => {
-                self.turn = Turn::Gathers(turn);
-                Ok(Answer::Taken)
-            }
-            Err(why) => Err(why),
-        }
+        let turn = self.replica.open_turn()?;
+        self.turn = Some(Turn::Gathers(turn));
+        Ok(Answer::Taken)
     }
 
     // Puts the turn forward, unless it has none to put forward.
-    pub fn put_forward(
-        &mut self,
-        out: &mut [u8],
-        fill: &mut Fill,
-    ) -> Result<Result<Answer, Refusal>, Fault> {
-        let Some(turn) = mem::replace(&mut self.turn, Turn::None).gathering() else {
-            return Err(Fault::NoTurn);
-        };
-        let lent = self.lent.min(10);
-        match self
-            .replica
-            .put_forward(turn, &mut self.records[0..lent], out, fill)
-        {
-            Ok(Some(turn)) => {
-                self.turn = Turn::Counts(turn);
+    pub fn put_forward(&mut self, out: &mut [u8], fill: &mut Fill) -> Answered {
+        let turn = self
+            .turn
+            .take()
+            .and_then(Turn::gathering)
+            .ok_or(Fault::NoTurn)?;
+        let records = first(&mut self.records, self.lent);
+        match self.replica.put_forward(turn, records, out, fill) {
+            Ok(turn) => {
+                self.turn = turn.map(Turn::Counts);
                 Ok(Ok(Answer::Taken))
             }
-            Ok(None) => Ok(Ok(Answer::Taken)),
             Err((why, turn)) => {
-                self.turn = Turn::Gathers(turn);
+                self.turn = Some(Turn::Gathers(turn));
                 Ok(Err(why))
             }
         }
     }
 
     // Gives a commit to the turn, unless it has none that counts.
-    pub fn take_commit(&mut self, message: &[u8]) -> Result<Result<Answer, Refusal>, Fault> {
-        let Turn::Counts(turn) = &self.turn else {
+    pub fn take_commit(&mut self, message: &[u8]) -> Answered {
+        let Some(Turn::Counts(turn)) = &self.turn else {
             return Err(Fault::NoTurn);
         };
-        let lent = self.lent.min(10);
-        match self
-            .replica
-            .take_commit(turn, &mut self.records[0..lent], message)
-        {
-            Ok(()) => Ok(Ok(Answer::Taken)),
-            Err(why) => Ok(Err(why)),
-        }
+        let records = first(&mut self.records, self.lent);
+        let heard = self.replica.take_commit(turn, records, message);
+        Ok(heard.map(|()| Answer::Taken))
     }
 
     // Closes the turn, unless it has none that counts.
-    pub fn close(
-        &mut self,
-        out: &mut [u8],
-        fill: &mut Fill,
-    ) -> Result<Result<Answer, Refusal>, Fault> {
-        let Some(turn) = mem::replace(&mut self.turn, Turn::None).counting() else {
-            return Err(Fault::NoTurn);
-        };
-        match self
-            .replica
-            .close(turn, first(&self.records, self.lent), out, fill)
-        {
+    pub fn close(&mut self, out: &mut [u8], fill: &mut Fill) -> Answered {
+        let turn = self
+            .turn
+            .take()
+            .and_then(Turn::counting)
+            .ok_or(Fault::NoTurn)?;
+        let records = first(&mut self.records, self.lent);
+        match self.replica.close(turn, records, out, fill) {
             Ok(()) => Ok(Ok(Answer::Taken)),
             Err((why, turn)) => {
-                self.turn = Turn::Counts(turn);
+                self.turn = Some(Turn::Counts(turn));
                 Ok(Err(why))
             }
         }

@@ -47,8 +47,7 @@ pub(crate) fn certify<S: Sealer, Q, B: Ballot<Q>>(
 ) -> Result<Seal, Refusal>
     ensures { length records.now ≤ 256 → Sending (S.Sealer.meaning sealer.old) (S.Sealer.meaning sealer.new) (cert_for notice.now.head (kind_of notice.now.certified) (sort_of notice.now.certified) (word_of notice.now.certified) notice.now.slip (take (quorum notice.now.pool) (votes_from (λ b. B.Ballot.backed b asked.now) (λ b. B.Ballot.given b asked.now) 0 records.now))) fill.old.len fill.new.len out.old out.new (one_seal result) }
 {
-    let votes: Bounded<Vote, 10> =
-        lowest(records, asked, notice.pool.quorum(), blank_vote());
+    let votes: Bounded<Vote, 10> = lowest(records, asked, notice.pool.quorum(), blank_vote());
     send_certificate(
         sealer,
         out,
