@@ -12,6 +12,7 @@ pub struct Bounded<T, const N: usize> {
     ghost fits: { len ≤ N },
 }
 
+// Kept: a struct with a ghost field cannot derive it.
 impl<T: Copy, const N: usize> Clone for Bounded<T, N> {
     ghost use Rattle.std.specs.Prelude.{◌≡◌, ⊤};
 

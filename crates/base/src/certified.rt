@@ -16,6 +16,7 @@ pub enum Certified {
 
 impl Certified {
     // The kind of message that is sent.
+    // Kept: three tables with values of three types.
     pub fn kind(self) -> Kind
         ensures { result ≡ kind_of self }
     {

@@ -33,6 +33,7 @@ impl TryFrom<u32> for Pool {
 
 impl Pool {
     // t: how many members may lie.
+    // Kept: three tables, as the rule has them, and not sums over one of them.
     pub fn tolerance(self) -> usize
         ensures { result ≡ tolerance self }
     {

@@ -49,6 +49,7 @@ pub enum Refusal {
 
 impl Refusal {
     // The number by which people know it.
+    // Kept: the table of the rule.
     pub fn number(self) -> u8
         ensures { result ≡ slice_index (told self) 0 }
     {

@@ -65,6 +65,7 @@ impl Slip {
 }
 
 // Whether two slips are one page.
+// Kept: the name of the rule, over the derived equality.
 pub fn one_page(a: &Slip, b: &Slip) -> bool
     ensures { result ≡ one_page a.now b.now }
 {

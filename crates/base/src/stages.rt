@@ -35,6 +35,7 @@ pub enum Kind {
 
 impl Kind {
     // The first byte of a message of this kind.
+    // Kept: a table of the format.
     pub fn number(self) -> u8
         ensures { result ≡ kind_number self }
     {
@@ -47,30 +48,24 @@ impl Kind {
             Kind::Release => 6,
         }
     }
-
-    // The kind whose messages begin with that byte.
-    pub fn from_number(number: u8) -> Option<Kind>
-        ensures { result ≡ kind_of number }
-    {
-        match number {
-            1 => Some(Kind::Change),
-            2 => Some(Kind::Lock),
-            3 => Some(Kind::Select),
-            4 => Some(Kind::Commit),
-            5 => Some(Kind::Decide),
-            6 => Some(Kind::Release),
-            _ => None,
-        }
-    }
 }
 
+// The kind whose messages begin with that byte.
 impl TryFrom<u8> for Kind {
     type Error = Refusal;
 
     ghost try_from_gives = { λ n r. r ≡ ok_or (kind_of n) Misshapen };
 
     fn try_from(number: u8) -> Result<Self, Refusal> {
-        Kind::from_number(number).ok_or(Refusal::Misshapen)
+        match number {
+            1 => Ok(Kind::Change),
+            2 => Ok(Kind::Lock),
+            3 => Ok(Kind::Select),
+            4 => Ok(Kind::Commit),
+            5 => Ok(Kind::Decide),
+            6 => Ok(Kind::Release),
+            _ => Err(Refusal::Misshapen),
+        }
     }
 }
 
@@ -93,6 +88,7 @@ pub enum Sort {
 
 impl Sort {
     // The byte that stands for it in a table of contents.
+    // Kept: a table of the format.
     pub fn number(self) -> u8
         ensures { result ≡ sort_number self }
     {

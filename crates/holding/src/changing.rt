@@ -33,6 +33,7 @@ impl State {
     }
 
     // The highest round that tolerance + 2 members call for.
+    // Kept: the pool is of the settings and not of the state, so the clause is said of all settings of that pool.
     pub fn called(&self, pool: Pool) -> Option<Round>
         ensures { (s : Settings) → s.pool ≡ pool → option_map round_number result ≡ highest_round (called_for s (view_of pool self.now)) (view_of pool self.now).latest }
     {

@@ -42,6 +42,7 @@ fn from_leader(pool: Pool, head: Head) -> bool
 }
 
 // Whether the members in whose names the bodies before the reader stand are the pool's.
+// Kept: tried, `all` over a reader leaves a goal on the bodies it drained, which the loop shows with one invariant.
 fn all_members(pool: Pool, votes: Reader<'_>) -> bool
     ensures { whole (place_of votes.entry) ≡ true → result ≡ all_members pool (votes_at (place_of votes.entry)) }
 {

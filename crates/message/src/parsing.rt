@@ -67,6 +67,7 @@ struct Inner<'a> {
 // A message whose header is read and whose bodies are to come.
 #[derive(Clone, Copy)]
 struct Opened<'a> {
+    // Kept: the byte as it stands, which may be of no kind.
     kind: u8,
     head: Head,
     bodies: Reader<'a>,

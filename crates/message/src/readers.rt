@@ -15,6 +15,7 @@ pub struct Part<'a> {
 // A body and what the table of contents says of it.
 #[derive(Clone, Copy)]
 pub struct Body<'a> {
+    // Kept: the byte as it stands, which may be of no sort.
     pub sort: u8,
     pub member: Member,
     pub part: Part<'a>,
@@ -31,6 +32,7 @@ pub struct Reader<'a> {
     ghost table: { 12 + 4 * slice_index message.now 2 ≤ length message.now },
 }
 
+// Kept: a struct with ghost fields cannot derive it.
 impl<'a> Clone for Reader<'a> {
     ghost is_clone = { λ reader copy. copy ≡ reader };
 

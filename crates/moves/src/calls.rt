@@ -81,6 +81,7 @@ fn judge_tick<S: Sealer, R: Rulebook>(core: &Core<S, R>, ticks: u32) -> Result<(
 }
 
 // What the stage does when its time has come.
+// Kept: a rule of the project, steps are picked by a match on the stage.
 fn time_out<S: Sealer, R: Rulebook>(
     core: &mut Core<S, R>,
     out: &mut [u8],

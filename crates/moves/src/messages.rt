@@ -20,6 +20,7 @@ use rules::rulebooks::Rulebook;
 use seal::sealers::Sealer;
 
 // What a replica does with a message that was read and judged good, by its kind; the stage is the one that it leads to.
+// Kept: each kind hands other fields on, which closures in a table could not take.
 fn act<S: Sealer, R: Rulebook>(
     core: &mut Core<S, R>,
     message: &[u8],

@@ -84,6 +84,7 @@ pub(crate) fn add_entry(fill: &mut Fill, out: &mut [u8], sort: Sort, member: Mem
 }
 
 // The same with the byte that stands for the sort.
+// Kept: the byte of any sort, as the layout of a certificate takes it.
 pub(crate) fn add_row(fill: &mut Fill, out: &mut [u8], sort: u8, member: Member, len: usize)
     ensures { Adds fill.old.len fill.new.len (sort ∷ member.0 ∷ be2 len) out.old out.new }
 {

@@ -102,6 +102,7 @@ pub fn lay_certificate(
     add_vote_bodies(fill, out, votes);
 }
 
+// Kept: the byte of any sort, as the layout of a certificate takes it.
 fn add_vote_entries(fill: &mut Fill, out: &mut [u8], sort: u8, votes: &[Vote])
     ensures { Adds fill.old.len fill.new.len (table (vote_blocks sort votes.now)) out.old out.new }
 {

@@ -12,6 +12,7 @@ use seal::sealers::Sealer;
 use turns::phases::{Counting, Gathering};
 
 // A fault where the call was not made, and otherwise what the replica answered.
+// Kept: a refusal is an answer and is counted, a fault is not.
 pub type Answered = Result<Result<Answer, Refusal>, Fault>;
 
 // The turn of a member, in its phase.

@@ -1,4 +1,5 @@
 // What an accepted call answers.
+// Kept: a rule of the project, an answer is an enum with a definition for each case.
 use base::counters::Height;
 use base::slips::Slip;
 

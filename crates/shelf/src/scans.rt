@@ -20,6 +20,7 @@ pub(crate) struct Lock {
 }
 
 // Which slips are locked: none, one, or more.
+// Kept: three cases are of no shape of Option.
 #[derive(Clone, Copy)]
 pub(crate) enum Locks {
     Free,
