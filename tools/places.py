@@ -2,7 +2,8 @@
 """Finds the places that docs/DESIGN-PASS.md counts: python3 tools/places.py [TREE] [POINT].
 
 Without POINT it prints a count for each point, with POINT (1 to 7) the places, as FILE:LINE: TEXT.
-It reads crates/*/src/*.rt of the tree as text. A line that ends a comment `// Kept: ..` just above a place is told with it."""
+It reads crates/*/src/*.rt of the tree as text.
+A reason, a line `// Kept: ..` in the block of lines above a place, is told with it."""
 import os, re, sys
 from collections import defaultdict
 
@@ -11,7 +12,7 @@ only = int(sys.argv[2]) if len(sys.argv) > 2 else 0
 
 files = []
 for root, _, names in os.walk(os.path.join(tree, 'crates')):
-    if '/src' in root:
+    if '/src' in root and '/out/' not in root:
         files += [os.path.join(root, n) for n in sorted(names) if n.endswith('.rt')]
 files.sort()
 text = {f: open(f).read() for f in files}
@@ -35,7 +36,7 @@ LOOKED = {
         ('counted by hand beside a loop', r'(\w+) = \1\.(saturating_add|wrapping_add)\(|\b(\w+) \+= (1|[a-z]\w*\.[^;]*len\(\));'),
     ],
     4: [
-        ('impl of equality, order or copying by hand', r'impl (PartialEq|Eq|PartialOrd|Ord|Clone|Copy) for'),
+        ('impl of equality, order or copying by hand', r'impl(<[^{]*?>)? (PartialEq|Eq|PartialOrd|Ord|Clone|Copy) for'),
         ('numbers of two counters compared', r'\w\.0 (==|!=|<=|>=|<|>) [\w.]+\.0\b'),
         ('a named comparison', r'fn (equal|one_page|same_page|same_mark|same_bytes|bytes_above|outranks|higher|raise)\('),
         ('conversion by hand', r'fn (from_number|pool_of|told|made|taken|by_lots|by_maker|mark_at|two_at|four_at|word_at|eight_bytes)[(<]'),
@@ -55,15 +56,14 @@ def line_of(s, i):
     return s.count('\n', 0, i) + 1
 
 def kept(f, line):
+    """The reason that stands in the same block of lines, above the place or just below its first line."""
     rows = text[f].split('\n')
-    i = line - 2
-    while i >= 0 and rows[i].strip().startswith('//'):
-        if 'Kept:' in rows[i]:
-            return rows[i].strip()[3:]
-        i -= 1
-    for j in range(line - 1, min(line + 2, len(rows))):
-        if '// Kept:' in rows[j]:
-            return rows[j].strip()[3:]
+    first = line - 1
+    while first > 0 and rows[first - 1].strip():
+        first -= 1
+    for row in rows[first:line + 2]:
+        if 'Kept:' in row:
+            return row.strip()[3:]
     return ''
 
 def by_text(point):
