@@ -1,5 +1,5 @@
 -- The first bad seal of one list of checks after another.
-use Rattle.std.proofs.Common.{◌≡◌, ℕ, Bool, true, false, cond, List, [], ◌∷◌, ◌++◌, Some, Option, Ok, Err, Result, sym, ap, ◌∙◌, subst, arith}
+use Rattle.std.proofs.Common.{◌≡◌, ℕ, Bool, true, false, cond, List, [], ◌∷◌, ◌++◌, Some, None, Option, Ok, Err, Result, refl, sym, ap, ◌∙◌, subst, arith}
 use Rattle.base.specs.Refusals.{passing}
 use Rattle.base.specs.declared.refusals.Refusal.{Refusal}
 use Rattle.base.specs.declared.refusals.Refusal.TheVariants.{BadSeal}
@@ -27,6 +27,14 @@ module _ (knows : ℕ → List ℕ → List ℕ → Bool) where
   pub goes_on : (xs ys : List Check) (r : Result (Unit {0}) Refusal) → Ok tt ≡ passing (bad_seal knows xs) → r ≡ passing (bad_seal knows ys) → r ≡ passing (bad_seal knows (xs ++ ys))
   goes_on [] ys r is rest = rest
   goes_on (x ∷ xs) ys r is rest = later_by (recognised knows x) (BadSeal x.place x.inside) (bad_seal knows xs) (bad_seal knows (xs ++ ys)) r (λ i. goes_on xs ys r i rest) is
+
+  -- one seal that stands, before others
+  stands_by : (b : Bool) (one : Refusal) (o : Option Refusal) → Ok tt ≡ passing (cond b None (Some one)) → cond b o (Some one) ≡ o
+  stands_by true one o is = refl
+  stands_by false one o is = absurd (let z : ◌≡◌ {A = ℕ} 0 1 = cc in omega arith)
+
+  pub one_stands : (x : Check) (ys : List Check) → Ok tt ≡ passing (bad_seal knows (x ∷ [])) → bad_seal knows (x ∷ ys) ≡ bad_seal knows ys
+  one_stands x ys is = stands_by (recognised knows x) (BadSeal x.place x.inside) (bad_seal knows ys) is
 
   -- what was found of a message that holds this
   pub at_holds : (h : Head) (was is : Holds) (r : Result (Unit {0}) Refusal) → was ≡ is → (WholeHolds is → r ≡ passing (bad_seal knows (checks_of h (content_in is)))) → WholeHolds was → r ≡ passing (bad_seal knows (checks_of h (content_in was)))

@@ -39,19 +39,21 @@ impl<C: Checker> Seals<'_, C> {
         }
     }
 
-    // Whether the checker recognises a part of the message as a member's seal on the statement.
-    fn stands(&self, member: Member, statement: &Statement, part: Part<'_>) -> bool
-        ensures { result ≡ C.Checker.recognised self.now.checker.now member.0 (statement_bytes statement.now) part.entry.bytes.now }
+    // Refused where the checker does not recognise a part of the message, at its place, as a member's seal on the statement.
+    fn check(
+        &self,
+        member: Member,
+        statement: &Statement,
+        part: Part<'_>,
+        place: u8,
+    ) -> Result<(), Refusal>
+        ensures { result ≡ passing (bad_seal (C.Checker.recognised self.now.checker.now) (record { place = place; inside = self.now.inside; signer = member.0; statement = statement.now; seal = part.entry.bytes.now } ∷ [])) }
     {
-        self.checker
-            .recognises(member, statement.to_bytes().as_slice(), part.bytes)
-    }
-
-    // Refused where a seal of the sender's own, at its place, is not recognised.
-    fn own(&self, word: Word, page: Option<Slip>, part: Part<'_>, place: u8) -> Result<(), Refusal>
-        ensures { result ≡ passing (bad_seal (C.Checker.recognised self.now.checker.now) (own_check self.now.inside place self.now.head word page part.entry.bytes.now ∷ [])) }
-    {
-        if self.stands(self.head.sender, &self.statement(word, page), part) {
+        let bytes = statement.to_bytes();
+        if self
+            .checker
+            .recognises(member, bytes.as_slice(), part.bytes)
+        {
             Ok(())
         } else {
             Err(Refusal::BadSeal {
@@ -61,18 +63,20 @@ impl<C: Checker> Seals<'_, C> {
         }
     }
 
+    // Refused where a seal of the sender's own, at its place, is not recognised.
+    fn own(&self, word: Word, page: Option<Slip>, part: Part<'_>, place: u8) -> Result<(), Refusal>
+        ensures { result ≡ passing (bad_seal (C.Checker.recognised self.now.checker.now) (own_check self.now.inside place self.now.head word page part.entry.bytes.now ∷ [])) }
+    {
+        self.check(self.head.sender, &self.statement(word, page), part, place)
+    }
+
     // Refused at the first of the quorum's seals that is not recognised.
     // Kept: that all of them are there stays a premise, since anyone may fill in a certificate's public fields.
     fn votes(&self, statement: &Statement, votes: Reader<'_>) -> Result<(), Refusal>
         ensures { whole (place_of votes.entry) ≡ true → length (left (place_of votes.entry)) ≤ 7 → result ≡ passing (bad_seal (C.Checker.recognised self.now.checker.now) (vote_checks 2 self.now.inside statement.now (votes_at (place_of votes.entry)))) }
     {
         for (vote, place) in votes.zip(2..) {
-            if !self.stands(vote.member, statement, vote.part) {
-                return Err(Refusal::BadSeal {
-                    place,
-                    inside: self.inside,
-                });
-            }
+            self.check(vote.member, statement, vote.part, place)?;
         }
         Ok(())
     }
