@@ -18,6 +18,7 @@ fn raise(lock: Option<Round>, round: Round) -> Round
 }
 
 // Locks the slip in the round, unless it is already locked in a higher one.
+// Kept: the write stands in the loop, since after `iter_mut` and `find` only the length of the slice is known.
 pub(crate) fn lock_at(candidates: &mut [Candidate], slip: &Slip, round: Round)
     ensures { map candidate_view candidates.new ≡ locked_at slip.now round.0 (map candidate_view candidates.old) }
 {

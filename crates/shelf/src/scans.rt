@@ -20,7 +20,7 @@ pub(crate) struct Lock {
 }
 
 // Which slips are locked: none, one, or more.
-// Kept: three cases are of no shape of Option.
+// Kept: none, one and more are three cases, which no Option holds, and `candidate` names all three.
 #[derive(Clone, Copy)]
 pub(crate) enum Locks {
     Free,
@@ -67,15 +67,14 @@ fn beats_lock(held: &Option<Held>, lock: &Lock, other: &Lock) -> bool
 fn higher_of(held: &Option<Held>, candidate: &Candidate, best: Option<Lock>) -> Option<Lock>
     ensures { option_map lock_view result ≡ higher_of (option_map held_view held.now) candidate.now.slip (option_map round_view candidate.now.lock) (option_map lock_view best) }
 {
-    let Some(round) = candidate.lock else {
-        return best;
-    };
-    let lock = Lock {
-        slip: candidate.slip,
-        round,
-    };
-    best.filter(|other| !beats_lock(held, &lock, other))
-        .or(Some(lock))
+    candidate.lock.map_or(best, |round| {
+        let lock = Lock {
+            slip: candidate.slip,
+            round,
+        };
+        best.filter(|other| !beats_lock(held, &lock, other))
+            .or(Some(lock))
+    })
 }
 
 // The highest lock; of equals the one whose message is held.
