@@ -1,7 +1,9 @@
 -- Tallies and votes: over what a record stands for, and one record at a time.
-use Rattle.std.proofs.Common.{◌≡◌, ℕ, zero, suc, ◌+◌, ◌-◌, ◌<◌, ◌≤◌, Bool, true, false, cond, List, [], ◌∷◌, ◌++◌, map, length, get_or, take, drop, Some, None, Option, sym, refl, ap, ◌∙◌, arith}
-use Rattle.std.proofs.lemmas.List.{at_drop_more, at_drop_all, append_assoc, append-nil, map_push, length_push}
+use Rattle.std.proofs.Common.{◌≡◌, ℕ, zero, suc, ◌+◌, ◌-◌, ◌<◌, ◌≤◌, Bool, true, false, cond, List, [], ◌∷◌, ◌++◌, map, length, take, Some, None, Option, sym, refl, ap, ◌∙◌, arith}
+use Rattle.std.proofs.lemmas.List.{append_assoc, append-nil, map_push, length_push}
 use Rattle.std.specs.List.{count_by}
+use Rattle.std.specs.Range.{range_inclusive_len, range_inclusive_left}
+use Rattle.std.specs.declared.ops.RangeInclusive.{RangeInclusive}
 use Rattle.std.proofs.lemmas.List.Sums.{sum_by-cons}
 use Rattle.base.specs.Seals.{seal_bytes}
 use Rattle.base.specs.declared.seals.Seal.{Seal}
@@ -43,57 +45,60 @@ take_none : {Y : Type 0} (k : ℕ) → take {A = Y} k [] ≡ []
 take_none zero = refl
 take_none (suc k) = refl
 
-module _ {X : Type 0} (test : X → Bool) (seal : X → List ℕ) (xs : List X) (quorum : ℕ) where
-  -- the votes that are there, with those still to come
-  unfoldable pub whole : ℕ → List Vote → List (Signed (List ℕ))
-  whole i votes = map signed_by votes ++ take (quorum - length votes) (votes_from test seal i (drop i xs))
+-- members left from 0 to 255: a spent range has none, and the next of another is as far from 256 as are left
+abbrev pub left_of : RangeInclusive ℕ → ℕ
+left_of r = range_inclusive_left (λ (a z : ℕ). z - a) r
+
+next_by : (a z : ℕ) (spent : Bool) → z ≡ 255 → 0 < range_inclusive_len (λ (a z : ℕ). z - a) a z spent → a ≡ 256 - range_inclusive_len (λ (a z : ℕ). z - a) a z spent
+next_by a z true e more = absurd (omega arith)
+next_by a z false e more = omega arith
+
+pub next_is : (r : RangeInclusive ℕ) → r.end ≡ 255 → 0 < left_of r → r.start ≡ 256 - left_of r
+next_is r e more = next_by r.start r.end r.exhausted e more
+
+module _ {X : Type 0} (test : X → Bool) (seal : X → List ℕ) (quorum : ℕ) where
+  -- the votes that are there, with those still to come of the records that are left
+  unfoldable pub whole : ℕ → List X → List Vote → List (Signed (List ℕ))
+  whole n xs votes = map signed_by votes ++ take (quorum - length votes) (votes_from test seal n xs)
 
   -- none is there yet
-  pub whole_none : whole 0 [] ≡ take quorum (votes_from test seal 0 xs)
+  pub whole_none : (xs : List X) → whole 0 xs [] ≡ take quorum (votes_from test seal 0 xs)
   unfolding whole
-  whole_none =
+  whole_none xs =
       let all : quorum - 0 ≡ quorum = omega arith
       in ap (λ k. take k (votes_from test seal 0 xs)) all
 
   -- enough of them, and no more of them
-  pub whole_full : (i : ℕ) (votes : List Vote) → quorum ≤ length votes → whole i votes ≡ map signed_by votes
+  pub whole_full : (n : ℕ) (xs : List X) (votes : List Vote) → quorum ≤ length votes → whole n xs votes ≡ map signed_by votes
   unfolding whole
-  whole_full i votes h =
+  whole_full n xs votes h =
       let none : quorum - length votes ≡ 0 = omega arith
-      in ap (λ k. map signed_by votes ++ take k (votes_from test seal i (drop i xs))) none ∙ append-nil (map signed_by votes)
+      in ap (λ k. map signed_by votes ++ take k (votes_from test seal n xs)) none ∙ append-nil (map signed_by votes)
 
-  pub whole_all : (i : ℕ) (votes : List Vote) → length xs ≤ i → whole i votes ≡ map signed_by votes
+  pub whole_all : (n : ℕ) (xs : List X) (votes : List Vote) → length xs ≤ 0 → whole n xs votes ≡ map signed_by votes
   unfolding whole
-  whole_all i votes h =
-      ap (λ v. map signed_by votes ++ take (quorum - length votes) v) (at_drop_all (votes_from test seal i) xs i h)
-      ∙ ap (λ v. map signed_by votes ++ v) (take_none (quorum - length votes))
-      ∙ append-nil (map signed_by votes)
+  whole_all n [] votes h = ap (λ v. map signed_by votes ++ v) (take_none (quorum - length votes)) ∙ append-nil (map signed_by votes)
+  whole_all n (x ∷ xs) votes h = absurd (omega arith)
 
-  module _ (i : ℕ) (x : X) (more : i < length xs) (is : x ≡ get_or xs i x) where
-    step : votes_from test seal i (drop i xs) ≡ cond (test x) (record { signer = i; seal = seal x } ∷ votes_from test seal (i + 1) (drop (i + 1) xs)) (votes_from test seal (i + 1) (drop (i + 1) xs))
-    step =
-        at_drop_more (votes_from test seal i) xs i x more
-        ∙ ap (λ y. cond (test y) (record { signer = i; seal = seal y } ∷ votes_from test seal (i + 1) (drop (i + 1) xs)) (votes_from test seal (i + 1) (drop (i + 1) xs))) (sym is)
+  -- a record that is passed over
+  pub whole_same : (n : ℕ) (x : X) (xs : List X) (votes : List Vote) → ◌≡◌ {A = Option (List ℕ)} None (cond (test x) (Some (seal x)) None) → whole n (x ∷ xs) votes ≡ whole (n + 1) xs votes
+  unfolding whole
+  whole_same n x xs votes said =
+      let rest = votes_from test seal (n + 1) xs
+      in ap (λ b. map signed_by votes ++ take (quorum - length votes) (cond b (record { signer = n; seal = seal x } ∷ rest) rest)) (none_came (test x) (seal x) said)
 
-    -- a record that is passed over
-    pub whole_same : (votes : List Vote) → ◌≡◌ {A = Option (List ℕ)} None (cond (test x) (Some (seal x)) None) → whole i votes ≡ whole (i + 1) votes
-    unfolding whole
-    whole_same votes said =
-        ap (λ v. map signed_by votes ++ take (quorum - length votes) v)
-        (step ∙ ap (λ b. cond b (record { signer = i; seal = seal x } ∷ votes_from test seal (i + 1) (drop (i + 1) xs)) (votes_from test seal (i + 1) (drop (i + 1) xs))) (none_came (test x) (seal x) said))
-
-    -- one more vote
-    pub whole_more : (votes : List Vote) (v : Vote) → v.member.0 ≡ i → ◌≡◌ {A = Option (List ℕ)} (Some (seal_bytes v.seal)) (cond (test x) (Some (seal x)) None) → length votes < quorum → whole i votes ≡ whole (i + 1) (votes ++ v ∷ [])
-    unfolding whole
-    whole_more votes v named said less =
-        let rest = votes_from test seal (i + 1) (drop (i + 1) xs)
-        in let both = came (test x) v.seal (seal x) said
-        in let says : ◌≡◌ {A = Signed (List ℕ)} (record { signer = i; seal = seal x }) (signed_by v) = (λ k. record { signer = sym named k; seal = sym both.1 k })
-        in let some : 0 < quorum - length votes = omega arith
-        in let long : length (votes ++ v ∷ []) ≡ length votes + 1 = length_push votes v
-        in let left : quorum - length votes - 1 ≡ quorum - length (votes ++ v ∷ []) = omega arith
-        in let front = map signed_by votes
-        in let now : take (quorum - length votes) (votes_from test seal i (drop i xs)) ≡ signed_by v ∷ take (quorum - length (votes ++ v ∷ [])) rest
-        = ap (take (quorum - length votes)) (step ∙ ap (λ b. cond b (record { signer = i; seal = seal x } ∷ rest) rest) both.0 ∙ ap (λ r. r ∷ rest) says)
-        ∙ take_next (quorum - length votes) (signed_by v) rest some ∙ ap (λ k. signed_by v ∷ take k rest) left
-        in ap (λ z. front ++ z) now ∙ sym (append_assoc front (signed_by v ∷ []) (take (quorum - length (votes ++ v ∷ [])) rest)) ∙ ap (λ z. z ++ take (quorum - length (votes ++ v ∷ [])) rest) (sym (map_push signed_by votes v))
+  -- one more vote
+  pub whole_more : (n : ℕ) (x : X) (xs : List X) (votes : List Vote) (v : Vote) → v.member.0 ≡ n → ◌≡◌ {A = Option (List ℕ)} (Some (seal_bytes v.seal)) (cond (test x) (Some (seal x)) None) → length votes < quorum → whole n (x ∷ xs) votes ≡ whole (n + 1) xs (votes ++ v ∷ [])
+  unfolding whole
+  whole_more n x xs votes v named said less =
+      let rest = votes_from test seal (n + 1) xs
+      in let both = came (test x) v.seal (seal x) said
+      in let says : ◌≡◌ {A = Signed (List ℕ)} (record { signer = n; seal = seal x }) (signed_by v) = (λ k. record { signer = sym named k; seal = sym both.1 k })
+      in let some : 0 < quorum - length votes = omega arith
+      in let long : length (votes ++ v ∷ []) ≡ length votes + 1 = length_push votes v
+      in let left : quorum - length votes - 1 ≡ quorum - length (votes ++ v ∷ []) = omega arith
+      in let front = map signed_by votes
+      in let now : take (quorum - length votes) (votes_from test seal n (x ∷ xs)) ≡ signed_by v ∷ take (quorum - length (votes ++ v ∷ [])) rest
+      = ap (take (quorum - length votes)) (ap (λ b. cond b (record { signer = n; seal = seal x } ∷ rest) rest) both.0 ∙ ap (λ r. r ∷ rest) says)
+      ∙ take_next (quorum - length votes) (signed_by v) rest some ∙ ap (λ k. signed_by v ∷ take k rest) left
+      in ap (λ z. front ++ z) now ∙ sym (append_assoc front (signed_by v ∷ []) (take (quorum - length (votes ++ v ∷ [])) rest)) ∙ ap (λ z. z ++ take (quorum - length (votes ++ v ∷ [])) rest) (sym (map_push signed_by votes v))

@@ -16,6 +16,7 @@ pub struct Commit {
 }
 
 // A member's place in the leader's records: a commit, or blank.
+// Kept: a rule of the project: records are structs that the caller lends as a slice, each a commit or blank.
 #[derive(Clone, Copy)]
 pub struct CommitRecord {
     pub commit: Option<Commit>,
@@ -60,6 +61,7 @@ pub fn blank(records: &mut [CommitRecord], n: usize)
 }
 
 // Keeps the commit in its member's record, unless that reads as the page already; nothing where there is no such record.
+// Kept: the write is by index, since after `get_mut` of a slice only the length is known.
 #[tactic(auto, using(crate::proofs::Placing::noted_new))]
 pub fn note(records: &mut [CommitRecord], member: Member, commit: Commit, page: &Slip)
     ensures { records_view records.new ≡ noted page.now member.0 (committed commit) (records_view records.old) }

@@ -38,6 +38,7 @@ impl Statements {
     }
 
     // Keeps the latest statement of that member in place of the one before; nothing where there is no such place.
+    // Kept: the write is by index, since after `get_mut` of a slice only the length is known.
     #[tactic(auto, using(crate::proofs::Placing::stated_set))]
     pub fn set(&mut self, member: Member, latest: Latest)
         ensures { (n : ℕ) → n ≤ 10 → statements_view n self.new ≡ slice_set (statements_view n self.old) member.0 (Some (latest_view latest)) }

@@ -45,10 +45,7 @@ pub fn lowest<Q, B: Ballot<Q>, const N: usize>(
     ensures votes { quorum ≤ N → length records.now ≤ 256 → map signed_by (items result) ≡ take quorum (votes_from (λ b. B.backed b asked.now) (λ b. B.given b asked.now) 0 records.now) }
 {
     let mut votes = Bounded::empty(blank);
-    for (i, record) in records.iter().enumerate() {
-        let Ok(member) = u8::try_from(i) else {
-            return votes;
-        };
+    for (record, member) in records.iter().zip(0..=255u8) {
         if votes.as_slice().len() >= quorum {
             return votes;
         }
