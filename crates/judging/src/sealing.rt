@@ -5,8 +5,7 @@ ghost use Rattle.base.specs.Statements.{statement_bytes};
 ghost use Rattle.message.specs.Layout.{left, whole};
 ghost use Rattle.message.specs.Views.{place_of};
 ghost use Rattle.message.specs.Wholes.{WholeCert, Whole};
-ghost use Rattle.protocol.specs.Judging.{height_in, round_in, vote_checks, cert_checks, checks_of, bad_seal};
-ghost use Rattle.protocol.specs.Rounds.{says};
+ghost use Rattle.protocol.specs.Judging.{vote_checks, cert_checks, checks_of, bad_seal};
 ghost use Rattle.judging.specs.Parts.{own_check, change_checks, release_checks};
 ghost use Rattle.judging.specs.Views.{sent_of, cert_of, locked_of, votes_at};
 
@@ -27,18 +26,6 @@ struct Seals<'a, C> {
 }
 
 impl<C: Checker> Seals<'_, C> {
-    // The statement of a word about a page, for the height and round of the message.
-    fn statement(&self, word: Word, page: Option<Slip>) -> Statement
-        ensures { result ≡ says word (height_in self.now.head) (round_in self.now.head) page }
-    {
-        Statement {
-            word,
-            height: self.head.height,
-            round: self.head.round,
-            page,
-        }
-    }
-
     // Refused where the checker does not recognise a part of the message, at its place, as a member's seal on the statement.
     fn check(
         &self,
@@ -67,7 +54,7 @@ impl<C: Checker> Seals<'_, C> {
     fn own(&self, word: Word, page: Option<Slip>, part: Part<'_>, place: u8) -> Result<(), Refusal>
         ensures { result ≡ passing (bad_seal (C.Checker.recognised self.now.checker.now) (own_check self.now.inside place self.now.head word page part.entry.bytes.now ∷ [])) }
     {
-        self.check(self.head.sender, &self.statement(word, page), part, place)
+        self.check(self.head.sender, &self.head.says(word, page), part, place)
     }
 
     // Refused at the first of the quorum's seals that is not recognised.
@@ -93,7 +80,7 @@ impl<C: Checker> Seals<'_, C> {
         ensures { WholeCert c.now → result ≡ passing (bad_seal (C.Checker.recognised self.now.checker.now) (cert_checks self.now.inside own others page self.now.head (cert_of c.now))) }
     {
         self.own(own, Some(c.slip), c.own, 1)?;
-        self.votes(&self.statement(others, page), c.votes)
+        self.votes(&self.head.says(others, page), c.votes)
     }
 
     // Refused at the first of the two seals of a change that is not recognised.
