@@ -8,7 +8,7 @@ ghost use Rattle.shelf.specs.Locks.{lock_view, kept_in};
 use crate::candidates::Candidate;
 use crate::scans::Lock;
 use base::counters::Round;
-use base::slips::{Slip, one_page};
+use base::slips::Slip;
 
 // The higher of a lock's round, if there is one, and another round.
 fn raise(lock: Option<Round>, round: Round) -> Round
@@ -23,7 +23,7 @@ pub(crate) fn lock_at(candidates: &mut [Candidate], slip: &Slip, round: Round)
     ensures { map candidate_view candidates.new ≡ locked_at slip.now round.0 (map candidate_view candidates.old) }
 {
     for c in candidates.iter_mut() {
-        if one_page(&c.slip, slip) {
+        if c.slip == *slip {
             c.lock = Some(raise(c.lock, round));
             return;
         }
