@@ -12,7 +12,7 @@ pub struct Bounded<T, const N: usize> {
     ghost fits: { len ≤ N },
 }
 
-// Kept: a struct with a ghost field cannot derive it.
+// Kept: tried, `Clone` is not derived for a generic struct with a ghost field.
 impl<T: Copy, const N: usize> Clone for Bounded<T, N> {
     ghost use Rattle.std.specs.Prelude.{◌≡◌, ⊤};
 

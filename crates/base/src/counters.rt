@@ -1,5 +1,6 @@
 // Three counters that must never be confused: a height, a round and a member number.
-ghost use Rattle.std.specs.Prelude.{◌≡◌, ◌≤◌, ◌&&◌};
+ghost use Rattle.std.specs.Prelude.{◌≡◌, ◌≤◌, ◌&&◌, ◌+◌, cond, nat_lt, Some, None};
+ghost use Rattle.std.specs.Option.{option_map};
 ghost use Rattle.base.specs.Pools.{height_in_range, round_in_range};
 
 // The number of a page in the receipt book, from 1 to LAST_HEIGHT.
@@ -24,7 +25,14 @@ impl Height {
     pub fn in_range(self) -> bool
         ensures { result ≡ height_in_range self }
     {
-        FIRST_HEIGHT <= self.0 && self.0 <= LAST_HEIGHT
+        (FIRST_HEIGHT..=LAST_HEIGHT).contains(&self.0)
+    }
+
+    // The height above it; none above the last.
+    pub fn next(self) -> Option<Height>
+        ensures { option_map (λ h. h.0) result ≡ cond (nat_lt self.0 4000000000) (Some (self.0 + 1)) None }
+    {
+        (self.0 < LAST_HEIGHT).then(|| Height(self.0 + 1))
     }
 }
 
@@ -33,5 +41,12 @@ impl Round {
         ensures { result ≡ round_in_range self }
     {
         self.0 <= LAST_ROUND
+    }
+
+    // The round above it; none above the last.
+    pub fn next(self) -> Option<Round>
+        ensures { option_map (λ r. r.0) result ≡ cond (nat_lt self.0 65535) (Some (self.0 + 1)) None }
+    {
+        (self.0 < LAST_ROUND).then(|| Round(self.0 + 1))
     }
 }

@@ -28,6 +28,7 @@ pub struct Format {
 }
 
 // The next body, by what is left after it.
+// Kept: beside the reader's own `next`, whose clauses say where it stands, and not what is left; tried, the iterator's alone did not close.
 #[tactic(auto, using(crate::proofs::Reading::nexted))]
 pub fn body<'a>(reader: &mut Reader<'a>) -> Option<Body<'a>>
     ensures { Nexted (place_of reader.old) (place_of reader.new) (option_map entry_of result) }

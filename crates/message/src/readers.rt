@@ -1,9 +1,8 @@
 // A reader over one message, which hands out its bodies as parts of it.
-ghost use Rattle.std.specs.Prelude.{◌≡◌, ◌+◌, ◌*◌, ◌≤◌, ⊤, length, slice_index};
+ghost use Rattle.std.specs.Prelude.{◌≡◌, ◌+◌, ◌*◌, ◌≤◌, length, slice_index};
 
 use base::counters::Member;
 use base::writing::two_at;
-use std::alloc::AllocError;
 
 // A part of a message, with the place where it begins.
 #[derive(Clone, Copy)]
@@ -22,7 +21,7 @@ pub struct Body<'a> {
 }
 
 // One message, the place in its table of contents, and where the next body begins. Header and table are there.
-#[derive(Copy)]
+#[derive(Clone, Copy)]
 pub struct Reader<'a> {
     message: &'a [u8],
     index: usize,
@@ -30,17 +29,6 @@ pub struct Reader<'a> {
     ghost header: { 12 ≤ length message.now },
     ghost zero: { slice_index message.now 3 ≡ 0 },
     ghost table: { 12 + 4 * slice_index message.now 2 ≤ length message.now },
-}
-
-// Kept: a struct with ghost fields cannot derive it.
-impl<'a> Clone for Reader<'a> {
-    ghost is_clone = { λ reader copy. copy ≡ reader };
-
-    ghost is_infallible = { λ _. ⊤ };
-
-    fn clone(&self) -> Result<Self, AllocError> {
-        Ok(*self)
-    }
 }
 
 impl<'a> Iterator for Reader<'a> {

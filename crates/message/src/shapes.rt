@@ -1,7 +1,10 @@
 // What a message says, by its kind: plain structs over parts of the message.
+ghost use Rattle.std.specs.Prelude.{◌≡◌};
+
 use crate::readers::{Part, Reader};
 use base::counters::{Height, Member, Round};
 use base::slips::Slip;
+use base::statements::{Statement, Word};
 
 // Who sent a message, for which height and round.
 #[derive(Clone, Copy)]
@@ -9,6 +12,20 @@ pub struct Head {
     pub sender: Member,
     pub height: Height,
     pub round: Round,
+}
+
+impl Head {
+    // What is stated under it of a page with that word.
+    pub fn says(self, word: Word, page: Option<Slip>) -> Statement
+        ensures { result ≡ record { word = word; height = self.height; round = self.round; page = page } }
+    {
+        Statement {
+            word,
+            height: self.height,
+            round: self.round,
+            page,
+        }
+    }
 }
 
 // A slip, the leader's own seal, and a reader that stands before the quorum's seals.

@@ -7,7 +7,7 @@ use base::stages::Kind;
 
 // The length of a message of that kind, in a pool of that size, with seals of that length. A change may be without
 // a slip; for the other kinds it does not matter what is said of that.
-// Kept: a flag, since a caller that measures has no slip at hand to put into an Option.
+// Kept: a flag, since who measures has no slip at hand, and no Format, whose seals may be of any length: a byte keeps the sum in range.
 pub fn message_size(kind: Kind, with_slip: bool, pool: Pool, seal_len: u8) -> usize
     ensures size { result ≡ size_of kind with_slip pool seal_len }
     ensures hold { SizesHold }
