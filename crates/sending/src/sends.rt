@@ -21,7 +21,8 @@ use base::statements::{Statement, Word};
 use message::shapes::Head;
 use outbox::drafts::{Draft, Fill};
 use outbox::layouts::{
-    lay_certificate, lay_change, lay_commit, lay_release, slip_room, votes_room,
+    LONGEST_LOCK, MOST_VOTES, lay_certificate, lay_change, lay_commit, lay_release, slip_room,
+    votes_room,
 };
 use outbox::writers::has_room;
 use seal::sealers::Sealer;
@@ -71,8 +72,8 @@ pub fn send_change<S: Sealer>(
     ensures { Sending (S.Sealer.meaning sealer.old) (S.Sealer.meaning sealer.new) (change_draft head.sender.0 head.height.0 head.round.0 page.now) fill.old.len fill.new.len out.old out.new (two_seals result) }
 {
     let need = 20 + slip_room(page) + 2 * S::seal_length();
-    let changes = says(Word::Rchg, &head, None);
-    let stands = says(Word::Cand, &head, *page);
+    let changes = head.says(Word::Rchg, None);
+    let stands = head.says(Word::Cand, *page);
     send(
         sealer,
         out,
@@ -107,7 +108,7 @@ pub fn send_commit<S: Sealer>(
     ensures { Sending (S.Sealer.meaning sealer.old) (S.Sealer.meaning sealer.new) (commit_draft head.sender.0 head.height.0 head.round.0 slip.now) fill.old.len fill.new.len out.old out.new (one_seal result) }
 {
     let need = 20 + slip.size() + S::seal_length();
-    let stated = says(Word::Cmit, &head, Some(*slip));
+    let stated = head.says(Word::Cmit, Some(*slip));
     send(
         sealer,
         out,
@@ -130,11 +131,11 @@ pub fn send_release<S: Sealer>(
     ensures sent { measurable lock.now ≡ true → Sending (S.Sealer.meaning sealer.old) (S.Sealer.meaning sealer.new) (release_for head slip.now lock.now) fill.old.len fill.new.len out.old out.new (one_seal result) }
     ensures unlaid { measurable lock.now ≡ false → Unlaid (S.Sealer.meaning sealer.old) (S.Sealer.meaning sealer.new) fill.old.len fill.new.len out.old out.new (one_seal result) }
 {
-    if lock.len() > 65_535 {
+    if lock.len() > LONGEST_LOCK {
         return Err(Refusal::Misshapen);
     }
     let need = 20 + lock.len() + S::seal_length();
-    let stated = says(Word::Rlse, &head, Some(*slip));
+    let stated = head.says(Word::Rlse, Some(*slip));
     send(
         sealer,
         out,
@@ -158,11 +159,11 @@ pub fn send_certificate<S: Sealer>(
     ensures sent { countable votes.now ≡ true → Sending (S.Sealer.meaning sealer.old) (S.Sealer.meaning sealer.new) (cert_for head (kind_of certified) (sort_of certified) (word_of certified) slip.now (map signed_by votes.now)) fill.old.len fill.new.len out.old out.new (one_seal result) }
     ensures unlaid { countable votes.now ≡ false → Unlaid (S.Sealer.meaning sealer.old) (S.Sealer.meaning sealer.new) fill.old.len fill.new.len out.old out.new (one_seal result) }
 {
-    if votes.len() > 253 {
+    if votes.len() > MOST_VOTES {
         return Err(Refusal::Misshapen);
     }
     let need = 20 + slip.size() + S::seal_length() + votes_room(votes);
-    let stated = says(certified.word(), &head, Some(*slip));
+    let stated = head.says(certified.word(), Some(*slip));
     let (kind, sort) = (certified.kind(), certified.sort().number());
     send(
         sealer,
@@ -172,16 +173,4 @@ pub fn send_certificate<S: Sealer>(
         |sealer| seal_statement(sealer, &stated),
         |fill, out, own| lay_certificate(fill, out, kind, sort, head, slip, own, votes),
     )
-}
-
-// What the sender of a message states in it.
-fn says(word: Word, head: &Head, page: Option<Slip>) -> Statement
-    ensures { result ≡ record { word = word; height = head.now.height; round = head.now.round; page = page } }
-{
-    Statement {
-        word,
-        height: head.height,
-        round: head.round,
-        page,
-    }
 }
