@@ -14,6 +14,12 @@ use base::slips::Slip;
 use base::stages::{Kind, Sort};
 use message::shapes::Head;
 
+// How many votes a message may hold: its table of contents counts its bodies in one byte, the slip and the own seal among them.
+pub const MOST_VOTES: usize = 253;
+
+// How long a lock message in a release may be: its length stands in two bytes.
+pub const LONGEST_LOCK: usize = 65_535;
+
 // A change: slip unless none, the sender's seals on the round change and on the candidate.
 pub fn lay_change(
     fill: &mut Fill,
@@ -93,7 +99,7 @@ pub fn lay_certificate(
     ensures { countable votes.now ≡ true → Adds fill.old.len fill.new.len (framed (kind_number kind) head (cert_blocks sort head (cert_with slip.now own.now votes.now))) out.old out.new }
 {
     let own = own.as_slice();
-    add_header(fill, out, kind, head, 2 + votes.len().min(253) as u8);
+    add_header(fill, out, kind, head, 2 + votes.len().min(MOST_VOTES) as u8);
     add_entry(fill, out, Sort::Slip, Member(0), slip.size());
     add_entry(fill, out, Sort::Own, head.sender, own.len());
     add_vote_entries(fill, out, sort, votes);
@@ -132,7 +138,7 @@ pub fn votes_room(votes: &[Vote]) -> usize
     ensures room { countable votes.now ≡ true → result ≡ 4 * length votes.now + seals_length votes.now }
     ensures small { result ≤ 84 * 253 }
 {
-    let few = &votes[..votes.len().min(253)];
+    let few = &votes[..votes.len().min(MOST_VOTES)];
     4 * few.len() + seals_len(few)
 }
 

@@ -9,7 +9,10 @@ ghost use Rattle.outbox.specs.Laying.{LaysAt};
 ghost use Rattle.outbox.specs.Written.{sent, measurable, countable, cert_with, certifying};
 
 use crate::drafts::{Draft, Fill};
-use crate::layouts::{lay_certificate, lay_change, lay_commit, lay_release, slip_room, votes_room};
+use crate::layouts::{
+    LONGEST_LOCK, MOST_VOTES, lay_certificate, lay_change, lay_commit, lay_release, slip_room,
+    votes_room,
+};
 use base::certified::Certified;
 use base::refusals::Refusal;
 use base::seals::{Seal, Vote};
@@ -87,7 +90,7 @@ pub fn write_release(
 ) -> Result<(), Refusal>
     ensures { (inner : Locked (List ℕ)) → Appended (measurable lock.now) (encoded (sent head (release lock.now inner (seal_bytes own.now)))) fill.old.len fill.new.len out.old out.new result }
 {
-    if lock.len() > 65_535 {
+    if lock.len() > LONGEST_LOCK {
         return Err(Refusal::Misshapen);
     }
     let need = 20 + lock.len() + own.as_slice().len();
@@ -108,7 +111,7 @@ pub fn write_certificate(
 ) -> Result<(), Refusal>
     ensures { Appended (countable votes.now) (encoded (sent head (certifying certified (cert_with slip.now own.now votes.now)))) fill.old.len fill.new.len out.old out.new result }
 {
-    if votes.len() > 253 {
+    if votes.len() > MOST_VOTES {
         return Err(Refusal::Misshapen);
     }
     let need = 20 + slip.size() + own.as_slice().len() + votes_room(votes);

@@ -1,13 +1,17 @@
 -- What became of a draft, from its test of the room, its sealings and its layout.
-use Rattle.std.proofs.Common.{◌≡◌, ℕ, suc, ◌+◌, ◌-◌, ◌*◌, ◌≤◌, Bool, true, false, leb, List, [], ◌∷◌, map, length, take, replicate, Ok, Err, Option, sym, refl, ap, ◌∙◌, subst, inl, inr, arith}
+use Rattle.std.proofs.Common.{◌≡◌, ℕ, suc, ◌+◌, ◌-◌, ◌*◌, ◌≤◌, Bool, true, false, leb, List, [], ◌∷◌, map, length, take, replicate, Ok, Err, Option, Result, sym, refl, ap, ◌∙◌, subst, inl, inr, arith}
 use Rattle.std.proofs.lemmas.List.{length-replicate}
 use Rattle.std.proofs.lemmas.Bool.Decides.{nat_tests}
+use Rattle.std.specs.Borrow.{Bor, MutBor}
+use Rattle.std.specs.Fn.{Once}
+use Rattle.base.specs.Seals.{seal_bytes}
 use Rattle.base.specs.Slips.{slip_bytes}
 use Rattle.base.specs.Statements.{statement_bytes}
 use Rattle.base.specs.Writing.{wrote}
 use Rattle.base.specs.Kinds.{kind_number}
 use Rattle.base.specs.declared.refusals.Refusal.{Refusal}
 use Rattle.base.specs.declared.refusals.Refusal.TheVariants.{OutboxShort}
+use Rattle.base.specs.declared.seals.Seal.{Seal}
 use Rattle.base.specs.declared.seals.Vote.{Vote}
 use Rattle.base.specs.declared.slips.Slip.{Slip}
 use Rattle.base.specs.declared.stages.Kind.{Kind}
@@ -15,14 +19,17 @@ use Rattle.base.specs.declared.statements.Statement.{Statement}
 use Rattle.base.specs.declared.statements.Word.{Word}
 use Rattle.message.specs.declared.shapes.Head.{Head}
 use Rattle.outbox.specs.Appending.{fits, Adds}
+use Rattle.outbox.specs.declared.drafts.Fill.{Fill}
 use Rattle.outbox.specs.Written.{signed_by, slip_length, seals_length}
 use Rattle.outbox.proofs.Lengths.{change_long, commit_long, release_long, cert_bytes_long}
 use Rattle.protocol.specs.Messages.{commit_draft}
 use Rattle.protocol.specs.Plans.{Draft, draft_bytes, draft_size}
 use Rattle.protocol.specs.Rounds.{change_draft, head_for}
-use Rattle.seal.specs.Meaning.{Meaning, spent, Stated, Unstated}
+use Rattle.seal.specs.Meaning.{Meaning, spent, Stated, Unstated, Stating}
 use Rattle.sending.specs.Drafts.{release_for, cert_for}
-use Rattle.sending.specs.Sending.{spent_by, Good, has_room, Sending}
+use Rattle.sending.specs.Laying.{LaysAt, Lays}
+use Rattle.sending.specs.Sending.{spent_by, Good, has_room, Sending, StatingBoth, one_seal, two_of, two_seals}
+use Rattle.sending.specs.declared.sends.ChangeSeals.{ChangeSeals}
 
 -- spending seals, none or one by one
 pub spent_none : (m : Meaning) → m.left ≡ 0 → m ≡ spent_by m.left m
@@ -30,10 +37,6 @@ spent_none m none = let e : m.left ≡ m.left - m.left = omega arith in λ i. re
 
 pub spent_two : (m : Meaning) → spent_by 1 (spent_by 1 m) ≡ spent_by 2 m
 spent_two m = let e : m.left - 1 - 1 ≡ m.left - 2 = omega arith in λ i. record { number = m.number; left = e i; knows = m.knows; long = m.long }
-
--- the same statement, told otherwise
-pub stated_as : (m m' : Meaning) (s t : Statement) (seal : List ℕ) → s ≡ t → Stated m (statement_bytes s) m' seal → Stated m (statement_bytes t) m' seal
-stated_as m m' s t seal same st = subst (λ x. Stated m (statement_bytes x) m' seal) same st
 
 module _ (m : Meaning) (d : Draft) (f need : ℕ) (out : List ℕ) (long : need ≡ draft_size d m.long) where
   room_told : (b : Bool) → b ≡ fits f need (length out) → has_room m d f out ≡ b
@@ -102,6 +105,49 @@ module _ (m : Meaning) (d : Draft) (f need : ℕ) (out : List ℕ) (long : need 
           in goes_with m' (let a = one.any in let b = next.any in omega arith)
           (subst (Good m d.wants) (sym are) (subst (λ ws. Good m ws (x ∷ (y ∷ []))) (sym wants) ((one.sound, one.whole), ((next.sound, next.whole), tt))))
           (next.worn ∙ spent_two m ∙ ap (λ k. spent_by k m) (sym count))
+
+  -- what a call of `send` promises, by the room
+  by_room : {T : Type 0} (told : Result T Refusal → Result (List (List ℕ)) Refusal) (m' : Meaning) (f' : ℕ) (out' : List ℕ) (r : Result T Refusal) → told (Err OutboxShort) ≡ Err OutboxShort
+      → (fits f need (length out) ≡ false → (r ≡ Err OutboxShort) × ((m' ≡ m) × ((out' ≡ out) × (f' ≡ f))))
+      → (true ≡ fits f need (length out) → Sending m m' d f f' out out' (told r)) → Sending m m' d f f' out out' (told r)
+  by_room told m' f' out' r is short roomy = on (fits f need (length out)) refl
+    where
+      on : (b : Bool) → b ≡ fits f need (length out) → Sending m m' d f f' out out' (told r)
+      on true e = roomy e
+      on false e = let k = short (sym e) in subst (λ x. Sending m m' d f f' out out' x) (sym (ap told k.0 ∙ is)) (is_short m' f' out' k.1.0 k.1.1.1 k.1.1.0 e)
+
+  -- for a draft of one seal
+  module _ {F : Type 0} (g : Once F (MutBor Fill × (MutBor (List ℕ) × (Bor Seal × Unit {0}))) (Unit {0} × (MutBor Fill × (MutBor (List ℕ) × Unit {0})))) (lay : F) where
+    pub sent_one : (m' : Meaning) (f' : ℕ) (out' : List ℕ) (r : Result Seal Refusal) (t : Statement) → d.wants ≡ t ∷ []
+        → ((x : List ℕ) → length x ≡ m.long → length (draft_bytes d (x ∷ [])) ≡ need)
+        → (fits f need (length out) ≡ false → (r ≡ Err OutboxShort) × ((m' ≡ m) × ((out' ≡ out) × (f' ≡ f))))
+        → (fits f need (length out) ≡ true → Stating m (statement_bytes t) r m')
+        → (fits f need (length out) ≡ true → Lays g lay r f f' out out')
+        → ((seal : Seal) → LaysAt g lay seal f f' out out' → Adds f f' (draft_bytes d (seal_bytes seal ∷ [])) out out')
+        → Sending m m' d f f' out out' (one_seal r)
+    sent_one m' f' out' r t wants fills short made laid each = by_room one_seal m' f' out' r refl short (λ room. by_answer room r (made (sym room)) (laid (sym room)))
+      where
+        by_answer : true ≡ fits f need (length out) → (x : Result Seal Refusal) → Stating m (statement_bytes t) x m' → Lays g lay x f f' out out' → Sending m m' d f f' out out' (one_seal x)
+        by_answer room (Ok seal) st l = goes_one room (seal_bytes seal ∷ []) f f' f' out' refl refl (fills (seal_bytes seal) st.whole) (each seal l) m' t (seal_bytes seal) wants refl st
+        by_answer room (Err why) u l = worn_first room m' f' out' why t [] wants l.1 l.0 u
+
+  -- and of two
+  module _ {F : Type 0} (g : Once F (MutBor Fill × (MutBor (List ℕ) × (Bor ChangeSeals × Unit {0}))) (Unit {0} × (MutBor Fill × (MutBor (List ℕ) × Unit {0})))) (lay : F) where
+    pub sent_two : (m' : Meaning) (f' : ℕ) (out' : List ℕ) (r : Result ChangeSeals Refusal) (t u : Statement) → d.wants ≡ t ∷ (u ∷ [])
+        → ((x y : List ℕ) → length x ≡ m.long → length y ≡ m.long → length (draft_bytes d (x ∷ (y ∷ []))) ≡ need)
+        → (fits f need (length out) ≡ false → (r ≡ Err OutboxShort) × ((m' ≡ m) × ((out' ≡ out) × (f' ≡ f))))
+        → (fits f need (length out) ≡ true → StatingBoth m (statement_bytes t) (statement_bytes u) r m')
+        → (fits f need (length out) ≡ true → Lays g lay r f f' out out')
+        → ((seals : ChangeSeals) → LaysAt g lay seals f f' out out' → Adds f f' (draft_bytes d (two_of seals)) out out')
+        → Sending m m' d f f' out out' (two_seals r)
+    sent_two m' f' out' r t u wants fills short made laid each = by_room two_seals m' f' out' r refl short (λ room. by_answer room r (made (sym room)) (laid (sym room)))
+      where
+        by_answer : true ≡ fits f need (length out) → (x : Result ChangeSeals Refusal) → StatingBoth m (statement_bytes t) (statement_bytes u) x m' → Lays g lay x f f' out out' → Sending m m' d f f' out out' (two_seals x)
+        by_answer room (Ok seals) st l =
+            let long : st.between.long ≡ m.long = ap (λ (z : Meaning). z.long) st.one.worn
+            in goes_two room (two_of seals) f f' f' out' refl refl (fills (seal_bytes seals.rchg) (seal_bytes seals.cand) st.one.whole (st.two.whole ∙ long)) (each seals l) st.between m' t u (seal_bytes seals.rchg) (seal_bytes seals.cand) wants refl st.one st.two
+        by_answer room (Err why) (inl w) l = worn_first room m' f' out' why t (u ∷ []) wants l.1 l.0 w
+        by_answer room (Err why) (inr w) l = worn_second room w.between m' f' out' why t u w.seal wants l.1 l.0 w.one w.none
 
 -- how long the drafts are
 zeros : (n : ℕ) → length {A = ℕ} (replicate n 0) ≡ n

@@ -8,7 +8,7 @@ use Rattle.base.specs.declared.refusals.Refusal.TheVariants.{Misshapen, WornSeal
 use Rattle.base.specs.declared.seals.Seal.{Seal}
 use Rattle.base.specs.declared.statements.Statement.{Statement}
 use Rattle.protocol.specs.Plans.{Draft, draft_bytes, draft_size}
-use Rattle.seal.specs.Meaning.{Meaning}
+use Rattle.seal.specs.Meaning.{Meaning, Stated, Unstated}
 use Rattle.sending.specs.declared.sends.ChangeSeals.{ChangeSeals}
 
 -- so many seals fewer are left, and nothing else is changed
@@ -81,3 +81,19 @@ two_of s = seal_bytes s.rchg ∷ (seal_bytes s.cand ∷ [])
 abbrev pub two_seals : Result ChangeSeals Refusal → Result (List (List ℕ)) Refusal
 two_seals (Ok s) = Ok (two_of s)
 two_seals (Err why) = Err why
+
+-- sealing both statements of a change: a seal on each, or the refusal of a sealer that wears out before the first or the second
+pub record StatedBoth (before : Meaning) (first second : List ℕ) (after : Meaning) (seals : ChangeSeals) : Type 0 where
+  pub between : Meaning
+  pub one : Stated before first between (seal_bytes seals.rchg)
+  pub two : Stated between second after (seal_bytes seals.cand)
+
+pub record StatedOne (before : Meaning) (first : List ℕ) (why : Refusal) (after : Meaning) : Type 0 where
+  pub between : Meaning
+  pub seal : List ℕ
+  pub one : Stated before first between seal
+  pub none : Unstated between why after
+
+abbrev pub StatingBoth : Meaning → List ℕ → List ℕ → Result ChangeSeals Refusal → Meaning → Type 0
+StatingBoth before first second (Ok seals) after = StatedBoth before first second after seals
+StatingBoth before first second (Err why) after = Unstated before why after ⊎ StatedOne before first why after

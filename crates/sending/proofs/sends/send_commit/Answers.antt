@@ -1,12 +1,10 @@
-use Rattle.std.proofs.Common.{◌≡◌, ℕ, ◌+◌, List, [], ◌∷◌, length, sym, refl, arith, rules}
-use Rattle.std.proofs.lemmas.Result.{err_from_is_err_and}
-use Rattle.base.specs.Seals.{seal_bytes}
+use Rattle.std.proofs.Common.{◌≡◌, ℕ, ◌+◌, List, [], ◌∷◌, length, sym, arith, rules}
 use Rattle.protocol.specs.Plans.{draft_bytes, draft_size}
 use Rattle.base.specs.Slips.{slip_bytes}
 use Rattle.base.specs.declared.slips.Slip.{Slip}
 use Rattle.message.specs.declared.shapes.Head.{Head}
 use Rattle.protocol.specs.Messages.{commit_draft}
-use Rattle.sending.proofs.Sent.{is_short, worn_first, goes_one, commit_fills, commit_size}
+use Rattle.sending.proofs.Sent.{sent_one, commit_fills, commit_size}
 use Rattle.sending.proofs.sends.send_commit.Goals as goal
 
 module _ (h : Head) (s : Slip) (n : ℕ) (is : n ≡ length (slip_bytes s)) (k m long : ℕ) (seal : k ≡ m) (same : long ≡ m) where
@@ -16,26 +14,13 @@ module _ (h : Head) (s : Slip) (n : ℕ) (is : n ≡ length (slip_bytes s)) (k m
   fills : (x : List ℕ) → length x ≡ long → length (draft_bytes (commit_draft h.sender.0 h.height.0 h.round.0 s) (x ∷ [])) ≡ 20 + n + k
   fills x ex = let e = commit_fills h.sender.0 h.height.0 h.round.0 s long x ex in omega arith
 
-pub returns-then-not-has_room : goal.returns-then-not-has_room
-returns-then-not-has_room g c =
-    is_short (g.S.Sealer.meaning c.args.sealer.now) _ _ _ _
-    (size c.args.head c.args.slip.now c.size.result c.size.ensures.size c.seal_length.result g.S.Checker.seal_long _ c.seal_length.ensures (g.met.S.Sealer.long c.args.sealer.now))
-    _ _ _ refl refl refl c.if-not-has_room.ensures
-
-pub returns-in_err-seal : goal.returns-in_err-seal
-returns-in_err-seal g c =
-    let p = err_from_is_err_and c.from_residual.result c.from_residual.ensures.1
-    in rw (p.1, p.2) (worn_first (g.S.Sealer.meaning c.args.sealer.now) _ _ _ _
-    (size c.args.head c.args.slip.now c.size.result c.size.ensures.size c.seal_length.result g.S.Checker.seal_long _ c.seal_length.ensures (g.met.S.Sealer.long c.args.sealer.now))
-    c.if-not-has_room.ensures (g.S.Sealer.meaning c.seal_statement.new.sealer) _ _ c.in_err-seal.field-0.0 _ _ refl (search rules) refl c.in_err-seal.ensures)
-
 pub returns : goal.returns
 returns g c =
-    let m = g.S.Sealer.meaning c.args.sealer.now
-    in let m1 = g.S.Sealer.meaning c.seal_statement.new.sealer
-    in let x = seal_bytes c.in_ok-seal.seal
-    in goes_one m _ _ _ _
+    sent_one (g.S.Sealer.meaning c.args.sealer.now) _ _ _ _
     (size c.args.head c.args.slip.now c.size.result c.size.ensures.size c.seal_length.result g.S.Checker.seal_long _ c.seal_length.ensures (g.met.S.Sealer.long c.args.sealer.now))
-    c.if-not-has_room.ensures (x ∷ []) _ c.lay_commit.new.fill.len _ _ c.begin-draft.ensures.now (search rules)
-    (fills c.args.head c.args.slip.now c.size.result c.size.ensures.size c.seal_length.result g.S.Checker.seal_long m.long c.seal_length.ensures (g.met.S.Sealer.long c.args.sealer.now) x c.in_ok-seal.ensures.whole)
-    c.lay_commit.ensures m1 c.says.result x (λ i. sym c.says.ensures i ∷ []) refl c.in_ok-seal.ensures
+    _ _ _ _ _ c.send.result c.says-stated.result (λ i. sym c.says-stated.ensures i ∷ [])
+    (fills c.args.head c.args.slip.now c.size.result c.size.ensures.size c.seal_length.result g.S.Checker.seal_long _ c.seal_length.ensures (g.met.S.Sealer.long c.args.sealer.now))
+    (λ e. let k = c.send.ensures.short e in (k.0, ((λ i. g.S.Sealer.meaning (k.1.0 i)), k.1.1)))
+    (λ e. let k = c.send.ensures.made e in search rules)
+    c.send.ensures.laid
+    (λ seal l. search rules)
