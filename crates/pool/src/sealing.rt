@@ -1,5 +1,5 @@
 // Seals: member 2 seals a statement, the others look at it.
-use anyhow::anyhow;
+use anyhow::Context;
 use base::counters::{Height, Member, Round};
 use base::refusals::Refusal;
 use base::seals::Seal;
@@ -35,7 +35,7 @@ fn key_row(a: u8) -> Keys {
 
 // A member's sealer.
 fn keyed<K: SealKind>(keys: Keys, member: u8, left: u32) -> anyhow::Result<Keyed<K>> {
-    Keyed::new(keys, Member(member), left).map_err(|_| anyhow!("no such sealer"))
+    Keyed::new(keys, Member(member), left).context("no such sealer")
 }
 
 fn statement(word: Word) -> Statement {
@@ -70,11 +70,9 @@ fn looks<C: Checker>(rt: &HostRuntime, who: u8, checker: &C, seal: &Seal) -> any
     let other = asks(checker, 1, Word::Cand, bytes);
     let word = asks(checker, 2, Word::Cmit, bytes);
     let mut turned = bytes.to_vec(rt.alloc())?;
-    let at = 8 * who as usize;
-    if turned.len() > 8 && at < turned.len() {
-        turned[at] ^= 1;
-    } else if turned.len() > 0 {
-        turned[0] ^= 1;
+    let tag = if turned.len() > 8 { who as usize } else { 0 };
+    if let Some(byte) = turned.get_mut(8 * tag) {
+        *byte ^= 1;
     }
     let bit = asks(checker, 2, Word::Cand, turned.as_slice());
     println!(rt;
@@ -89,8 +87,10 @@ fn makes<S: Sealer>(rt: &HostRuntime, sealer: &mut S) -> anyhow::Result<Option<S
     let left = sealer.left();
     match made {
         Ok(seal) => {
-            let n = seal.as_slice().len();
-            println!(rt; "  member 2 seals a candidate: {n} bytes, {left} seals left")?;
+            println!(rt;
+                "  member 2 seals a candidate: {} bytes, {left} seals left",
+                seal.as_slice().len()
+            )?;
             Ok(Some(seal))
         }
         Err(why) => {
@@ -101,8 +101,7 @@ fn makes<S: Sealer>(rt: &HostRuntime, sealer: &mut S) -> anyhow::Result<Option<S
 }
 
 fn refused(rt: &HostRuntime, why: Refusal) -> anyhow::Result<()> {
-    let number = why.number();
-    println!(rt; "  refused with {number}")?;
+    println!(rt; "  refused with {}", why.number())?;
     Ok(())
 }
 

@@ -40,6 +40,7 @@ impl SealKind for Row {
 
     // Writes the holder's tag under each key.
     fn write(ring: &KeyRing, statement: &[u8], out: &mut [u8]) {
+        // Kept: over `chunks_exact_mut` the proof did not close, as nothing is known of the parts after the loop.
         for (i, key) in ring.keys.iter().enumerate() {
             let _ = put(out, 8 * i, &tag(key, ring.own, statement));
         }

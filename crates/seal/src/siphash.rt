@@ -72,6 +72,7 @@ fn go_on_after(state: State, first: u8, rest: &[u8]) -> u64
         let last = tail(rest) * 256 + first as u64 + total as u64 * 0x100000000000000;
         return close(take_in(state, last));
     }
+    // Kept: eight indices are plainer than a copy of seven bytes into an array filled first.
     let word = u64::from_le_bytes([
         first, rest[0], rest[1], rest[2], rest[3], rest[4], rest[5], rest[6],
     ]);
