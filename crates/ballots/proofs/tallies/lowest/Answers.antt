@@ -20,9 +20,13 @@ loop-record-init g c =
     let all : left_of it.b ≡ 256 = ap left_of b-is ∙ (λ i. range_inclusive_len (λ (a z : ℕ). z - a) (c.new.ensures.start i) (c.new.ensures.end i) (c.new.ensures.exhausted i)) in
     let rest : iter_rest it.a ≡ xs = ap iter_rest a-is ∙ c.iter.ensures.rest in
     let long : length (iter_rest it.a) ≡ length xs = ap length rest in
-    let none : 256 - left_of it.b ≡ 0 = omega arith in
-    ((λ i. (b-is i).end) ∙ c.new.ensures.end, omega arith, (λ many. omega arith), λ few.
-        (λ i. whole test seal q (none i) (rest i) (c.empty-votes.ensures i)) ∙ whole_none test seal q xs)
+    let none : 256 - left_of it.b ≡ 0 = omega arith in (
+      (λ i. (b-is i).end) ∙ c.new.ensures.end,
+      omega arith,
+      (λ many. omega arith),
+      λ few.
+          (λ i. whole test seal q (none i) (rest i) (c.empty-votes.ensures i)) ∙ whole_none test seal q xs,
+    )
 
 pub returns-then-as_slice-quorum-clause-votes : goal.returns-then-as_slice-quorum-clause-votes
 returns-then-as_slice-quorum-clause-votes g c = λ few many.
@@ -52,15 +56,19 @@ loop-record-preserved-in-Some-seal g c =
     let named : c.in-Some.member ≡ 256 - left_of before.b = steps.1.1.0 ∙ next_is before.b inv.0 (omega arith) in
     let long : length c.as_slice.result.now ≡ length votes = ap length c.as_slice.ensures.is in
     let less : length votes < q = omega arith in
-    let v : Vote = record { member = record { 0 = c.in-Some.member }; seal = c.in-Some-seal.seal } in
-    (steps.1.0 ∙ inv.0, omega arith, (λ many. let was = inv.2 many in omega arith), λ few.
-        let room : length votes < g.row.N = omega arith in
-        let fits : c.push.result ≡ true = c.push.ensures.fits ∙ lt-ltb (length votes) g.row.N room in
-        let kept : items c.push.new.self ≡ votes ++ v ∷ [] = c.push.ensures.items ∙ ap (λ b. cond b (votes ++ v ∷ []) votes) fits in
-        (λ i. whole test seal q (next i) (iter_rest after.a) (kept i))
-        ∙ sym (whole_more test seal q (256 - left_of before.b) x (iter_rest after.a) votes v named c.in-Some-seal.ensures less)
-        ∙ ap (λ ys. whole test seal q (256 - left_of before.b) ys votes) (sym steps.0)
-        ∙ inv.3 few)
+    let v : Vote = record { member = record { 0 = c.in-Some.member }; seal = c.in-Some-seal.seal } in (
+      steps.1.0 ∙ inv.0,
+      omega arith,
+      (λ many. let was = inv.2 many in omega arith),
+      λ few.
+          let room : length votes < g.row.N = omega arith in
+          let fits : c.push.result ≡ true = c.push.ensures.fits ∙ lt-ltb (length votes) g.row.N room in
+          let kept : items c.push.new.self ≡ votes ++ v ∷ [] = c.push.ensures.items ∙ ap (λ b. cond b (votes ++ v ∷ []) votes) fits in
+          (λ i. whole test seal q (next i) (iter_rest after.a) (kept i))
+          ∙ sym (whole_more test seal q (256 - left_of before.b) x (iter_rest after.a) votes v named c.in-Some-seal.ensures less)
+          ∙ ap (λ ys. whole test seal q (256 - left_of before.b) ys votes) (sym steps.0)
+          ∙ inv.3 few,
+    )
 
 pub loop-record-preserved : goal.loop-record-preserved
 loop-record-preserved g c =
@@ -76,12 +84,16 @@ loop-record-preserved g c =
     let fewer : left_of after.b + 1 ≡ left_of before.b = steps.1.1.1 in
     let shorter : length (iter_rest before.a) ≡ length (x ∷ iter_rest after.a) = ap length steps.0 in
     let small = inv.1 in
-    let next : 256 - left_of after.b ≡ 256 - left_of before.b + 1 = omega arith in
-    (steps.1.0 ∙ inv.0, omega arith, (λ many. let was = inv.2 many in omega arith), λ few.
-        ap (λ n. whole test seal q n (iter_rest after.a) votes) next
-        ∙ sym (whole_same test seal q (256 - left_of before.b) x (iter_rest after.a) votes c.in_default.ensures)
-        ∙ ap (λ ys. whole test seal q (256 - left_of before.b) ys votes) (sym steps.0)
-        ∙ inv.3 few)
+    let next : 256 - left_of after.b ≡ 256 - left_of before.b + 1 = omega arith in (
+      steps.1.0 ∙ inv.0,
+      omega arith,
+      (λ many. let was = inv.2 many in omega arith),
+      λ few.
+          ap (λ n. whole test seal q n (iter_rest after.a) votes) next
+          ∙ sym (whole_same test seal q (256 - left_of before.b) x (iter_rest after.a) votes c.in_default.ensures)
+          ∙ ap (λ ys. whole test seal q (256 - left_of before.b) ys votes) (sym steps.0)
+          ∙ inv.3 few,
+    )
 
 pub returns-clause-votes : goal.returns-clause-votes
 returns-clause-votes g c = λ few many.

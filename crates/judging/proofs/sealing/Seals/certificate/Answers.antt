@@ -16,4 +16,4 @@ returns g c = λ w.
     let cert = c.args.c.now in
     let votes = votes_at (place_of cert.votes) in
     goes_on knows (own_check inside 1 head c.args.own (Some cert.slip) cert.own.bytes.now ∷ []) (vote_checks 2 inside (says c.args.others (height_in head) (round_in head) c.args.page) votes) c.votes.result c.in_ok-own.ensures
-        (c.votes.ensures w.votes_whole w.votes_few ∙ ap (λ s. passing (bad_seal knows (vote_checks 2 inside s votes))) c.says.ensures)
+    (c.votes.ensures w.votes_whole w.votes_few ∙ ap (λ s. passing (bad_seal knows (vote_checks 2 inside s votes))) c.says.ensures)

@@ -21,11 +21,16 @@ loop-vote-preserved g c =
     let next : after.b.start ≡ c.in-Some.place + 1 = steps.1.1 in
     let long : length (left (place_of before.a)) ≡ length (entry_of vote ∷ rest) = ap length steps.0.0 in
     let stands : found c.in-Some.place (entry_of vote ∷ rest) ≡ found (c.in-Some.place + 1) rest
-        = one_stands knows (record { place = c.in-Some.place; inside = inside; signer = vote.member.0; statement = c.args.statement.now; seal = vote.part.bytes.now }) (vote_checks (c.in-Some.place + 1) inside c.args.statement.now (votes_in rest)) c.in_ok-check.ensures in
-    let inv = c.loop-vote.invariant in
-    ((tt, tt), tt, search (rules, tests), λ few.
-        (let was = (inv.3 few).0 in omega arith,
-        ap (λ n. found n rest) next ∙ sym stands ∙ ap (λ n. found n (entry_of vote ∷ rest)) start ∙ ap (found before.b.start) (sym steps.0.0) ∙ (inv.3 few).1))
+    = one_stands knows (record { place = c.in-Some.place; inside = inside; signer = vote.member.0; statement = c.args.statement.now; seal = vote.part.bytes.now }) (vote_checks (c.in-Some.place + 1) inside c.args.statement.now (votes_in rest)) c.in_ok-check.ensures in
+    let inv = c.loop-vote.invariant in (
+      (tt, tt),
+      tt,
+      search (rules, tests),
+      λ few. (
+        let was = (inv.3 few).0 in omega arith,
+        ap (λ n. found n rest) next ∙ sym stands ∙ ap (λ n. found n (entry_of vote ∷ rest)) start ∙ ap (found before.b.start) (sym steps.0.0) ∙ (inv.3 few).1,
+      ),
+    )
 
 pub returns-in_err-check : goal.returns-in_err-check
 returns-in_err-check g c = λ w few.
@@ -39,6 +44,6 @@ returns-in_err-check g c = λ w few.
     let found = λ (n : ℕ) (es : List Entry). bad_seal knows (vote_checks n inside c.args.statement.now (votes_in es)) in
     let start : c.in-Some.place ≡ before.b.start = steps.1.0 in
     let same : found c.in-Some.place (entry_of vote ∷ rest) ≡ found 2 (left (place_of c.args.votes))
-        = ap (λ n. found n (entry_of vote ∷ rest)) start ∙ ap (found before.b.start) (sym steps.0.0) ∙ (c.loop-vote.invariant.3 few).1 in
+    = ap (λ n. found n (entry_of vote ∷ rest)) start ∙ ap (found before.b.start) (sym steps.0.0) ∙ (c.loop-vote.invariant.3 few).1 in
     let p = err_from_is_err_and c.from_residual.result c.from_residual.ensures.1 in
     rw (p.1, p.2, sym same) (stops_at knows (record { place = c.in-Some.place; inside = inside; signer = vote.member.0; statement = c.args.statement.now; seal = vote.part.bytes.now } ∷ []) (vote_checks (c.in-Some.place + 1) inside c.args.statement.now (votes_in rest)) c.in_err-check.field-0.0 c.in_err-check.ensures)
