@@ -43,11 +43,7 @@ impl State {
     pub fn latest_of(&self, pool: Pool, member: Member) -> Option<Latest>
         ensures { option_map latest_view result ≡ latest_of (view_of pool self.now) member.0 }
     {
-        if pool.has(member) {
-            self.statements.get(member)
-        } else {
-            None
-        }
+        *self.statements.of(pool).get(member.0 as usize)?
     }
 
     // Whether a change under that head, with that page, repeats its sender's latest statement.
