@@ -13,13 +13,12 @@ ghost use Rattle.protocol.specs.Turns.{leads};
 
 use crate::settings::Settings;
 use crate::states::State;
-use base::counters::Round;
 use base::refusals::Refusal;
 use base::slips::Slip;
 use judging::contents::on_chain;
 use judging::sealing::first_bad_seal;
 use message::parsing::Format;
-use message::shapes::{Head, Message};
+use message::shapes::Message;
 use rules::rulebooks::Rulebook;
 use seal::sealers::Sealer;
 
@@ -47,19 +46,6 @@ impl<S: Sealer, R: Rulebook> Core<S, R> {
         ensures { let b = ⟦<Self as Boxed>⟧.boxed self.now in result ≡ nat_lt b.sealer.number (members b.settings.pool) }
     {
         self.settings.pool.has(self.sealer.member())
-    }
-
-    // What stands over a message of its own, of its height and that round.
-    pub fn head(&self, round: Round) -> Head
-        ensures sender { result.sender.0 ≡ (⟦<Self as Boxed>⟧.boxed self.now).sealer.number }
-        ensures height { result.height ≡ self.now.state.height }
-        ensures round { result.round ≡ round }
-    {
-        Head {
-            sender: self.sealer.member(),
-            height: self.state.height,
-            round,
-        }
     }
 
     // Whether it leads its height and round.
