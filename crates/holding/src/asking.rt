@@ -14,7 +14,7 @@ use crate::states::State;
 use ballots::latest::Latest;
 use base::counters::{LAST_HEIGHT, Member, Round};
 use base::pools::Pool;
-use base::slips::{Slip, same_page};
+use base::slips::Slip;
 use message::shapes::{Head, Holds, LockMessage, Message};
 
 // Whether the round of a latest statement is not above that round.
@@ -28,14 +28,14 @@ fn not_before(latest: &Option<Latest>, round: Round) -> bool
 pub fn repeats(latest: &Option<Latest>, round: Round, page: &Option<Slip>) -> bool
     ensures { result ≡ repeats round.0 page.now (option_map latest_view latest.now) }
 {
-    latest.as_ref().is_some_and(|stated| stated.round == round && same_page(&stated.page, page))
+    latest.as_ref().is_some_and(|stated| stated.round == round && stated.page == *page)
 }
 
 // Whether the latest statement is of the same round, with another page.
 fn differs(latest: &Option<Latest>, round: Round, page: &Option<Slip>) -> bool
     ensures { result ≡ other_page round.0 page.now (option_map latest_view latest.now) }
 {
-    latest.as_ref().is_some_and(|stated| stated.round == round && !same_page(&stated.page, page))
+    latest.as_ref().is_some_and(|stated| stated.round == round && stated.page != *page)
 }
 
 impl State {
@@ -43,11 +43,7 @@ impl State {
     pub fn latest_of(&self, pool: Pool, member: Member) -> Option<Latest>
         ensures { option_map latest_view result ≡ latest_of (view_of pool self.now) member.0 }
     {
-        if pool.has(member) {
-            self.statements.get(member)
-        } else {
-            None
-        }
+        *self.statements.of(pool).get(member.0 as usize)?
     }
 
     // Whether a change under that head, with that page, repeats its sender's latest statement.

@@ -17,7 +17,7 @@ use crate::states::State;
 use ballots::latest::{Called, Latest};
 use base::counters::{Member, Round};
 use base::pools::Pool;
-use base::slips::{Slip, same_page};
+use base::slips::Slip;
 use base::stages::Stage;
 use shelf::held::Held;
 

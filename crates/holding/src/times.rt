@@ -21,7 +21,7 @@ pub struct Times {
 pub fn is_timely(ticks: u32) -> bool
     ensures { result ≡ timely ticks }
 {
-    1 <= ticks && ticks <= 60_000
+    (1..=60_000).contains(&ticks)
 }
 
 // Whether each of them is a time.

@@ -18,9 +18,8 @@ use rules::rulebooks::Rulebook;
 use seal::sealers::Sealer;
 use sending::sends::{send_change, send_release};
 
-// Kept: out and fill stay two parameters beside the core, here and in what stands on it, since a draft guards the fill alone.
-
 // States a round from a state that the call has come to. The state is stored once the change is sent.
+// Kept: out and fill stay two parameters beside the core, here and in what stands on it, since a draft guards the fill alone.
 pub(crate) fn state_round<S: Sealer, R: Rulebook>(
     core: &mut Core<S, R>,
     mut next: State,
@@ -32,6 +31,7 @@ pub(crate) fn state_round<S: Sealer, R: Rulebook>(
 {
     let own = core.sealer.member();
     let page = next.candidates.candidate(&core.rules);
+    // Kept: the height is that of the state that is stored after it, so no method of the core alone says this head.
     let head = Head {
         sender: own,
         height: next.height,
@@ -53,6 +53,7 @@ pub(crate) fn enter_releasing<S: Sealer, R: Rulebook>(
     ensures { Does ⟦<Core<S, R> as Boxed>⟧.boxed core.old core.new fill.old.len fill.new.len out.old out.new (λ b. Ok (releasing b taken (view_of core.old.settings.pool next.now))) (answered result) }
 {
     if let Some(held) = &next.held {
+        // Kept: as in state_round, the height is that of the state that is stored after it.
         let head = Head {
             sender: core.sealer.member(),
             height: next.height,
@@ -81,6 +82,7 @@ pub(crate) fn resend<S: Sealer, R: Rulebook>(
 {
     let own = core.sealer.member();
     if let Some(latest) = core.state.latest_of(core.settings.pool, own) {
+        // Kept: tried a method Core::head(round) here, and the proof did not close, as a draft is told by the head's own fields.
         let head = Head {
             sender: own,
             height: core.state.height,

@@ -37,6 +37,7 @@ fn arrive(state: &State, pool: Pool, m: &Message<'_>) -> Result<Stage, Refusal>
     if !state.round_taken(pool, m) {
         return Err(Refusal::WrongRound);
     }
+    // Kept: a rule of the project, advance changes the stage in place and says whether it did.
     let mut stage = state.stage;
     if !advance(&mut stage, kind_of(m), state.round, m.head.round) {
         return Err(Refusal::OutOfStage);
@@ -48,10 +49,7 @@ fn arrive(state: &State, pool: Pool, m: &Message<'_>) -> Result<Stage, Refusal>
 fn judge_page<S: Sealer, R: Rulebook>(core: &Core<S, R>, page: &Option<Slip>) -> Result<(), Refusal>
     ensures { let b = ⟦<Core<S, R> as Boxed>⟧.boxed core.now in result ≡ passing (slip_verdict (b.rules.admits b.view.height) b.view.last page.now) }
 {
-    match page {
-        Some(slip) => core.judge_slip(slip),
-        None => Ok(()),
-    }
+    page.as_ref().map_or(Ok(()), |slip| core.judge_slip(slip))
 }
 
 // What a message meets in the state: no contradiction, a place for its slip, a book that goes on.

@@ -83,6 +83,7 @@ pub(crate) fn on_lock<S: Sealer, R: Rulebook>(
     requires committing { stage ≡ Committing }
     ensures { (c : Cert (List ℕ)) → c.slip ≡ slip.now → Does ⟦<Core<S, R> as Boxed>⟧.boxed core.old core.new fill.old.len fill.new.len out.old out.new (λ b. Ok (on_lock b message.now head c)) (answered result) }
 {
+    // Kept: tried a method Core::head(round) here, and the proof did not close, as a draft is told by the head's own fields.
     let commit = Head {
         sender: core.sealer.member(),
         height: core.state.height,

@@ -1,5 +1,5 @@
 -- A certificate over the votes that were filled in is one over the votes of the lowest members.
-use Rattle.std.proofs.Common.{◌≡◌, ℕ, ◌-◌, ◌≤◌, true, List, map, length, take, ap, ◌∙◌, arith, lt-ltb}
+use Rattle.std.proofs.Common.{◌≡◌, ℕ, ◌≤◌, true, List, map, length, take, ap, ◌∙◌, arith, lt-ltb}
 use Rattle.base.specs.Pools.{quorum}
 use Rattle.base.specs.declared.pools.Pool.{Pool}
 use Rattle.base.specs.declared.pools.Pool.TheVariants.{Four, Seven, Ten}

@@ -51,6 +51,7 @@ fn decide<S: Sealer, R: Rulebook>(
     let pool = core.settings.pool;
     let notice = Notice {
         certified: Certified::Decide,
+        // Kept: tried a method Core::head(round) here, and the proof did not close, as a draft is told by the head's own fields.
         head: Head {
             sender: core.sealer.member(),
             height: core.state.height,

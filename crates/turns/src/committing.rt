@@ -20,7 +20,7 @@ use ballots::commits::{Commit, CommitRecord, note};
 use base::counters::Member;
 use base::refusals::Refusal;
 use base::seals::Seal;
-use base::slips::{Slip, one_page};
+use base::slips::Slip;
 use holding::cores::{Boxed, Core};
 use judging::speakers::familiar;
 use message::shapes::{Holds, Message};
@@ -63,7 +63,7 @@ fn judge_page<S: Sealer, R: Rulebook>(
     ensures { (rest : Answered (Plan Records) Why) → result_and result rest ≡ unless (on_chain core.now.state.last slip.now) OffChain (unless (R.Rulebook.admitted core.now.rules core.now.state.height slip.now) NotAdmitted (unless (one_page slip.now turn.now.page) Contradiction rest)) }
 {
     core.judge_slip(slip)?;
-    if !one_page(slip, &turn.page) {
+    if *slip != turn.page {
         return Err(Refusal::Contradiction);
     }
     Ok(())

@@ -23,7 +23,7 @@ use seal::sealers::Sealer;
 pub(crate) fn is_in(state: &State, at: Moment) -> bool
     ensures { result ≡ (state.now.height.0 == at.height.0 && state.now.round.0 == at.round.0) }
 {
-    state.height == at.height && state.round == at.round
+    Moment::of(state) == at
 }
 
 // Whether there is a record for each member.

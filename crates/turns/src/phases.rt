@@ -6,7 +6,7 @@ use base::slips::Slip;
 use holding::states::State;
 
 // A height, and a round of it.
-#[derive(Clone, Copy)]
+#[derive(Clone, Copy, PartialEq, Eq)]
 pub(crate) struct Moment {
     pub(crate) height: Height,
     pub(crate) round: Round,

@@ -49,10 +49,12 @@ pub(crate) fn propose<S: Sealer, R: Rulebook>(core: &Core<S, R>) -> Result<Propo
     if let Some(page) = agreed(state.statements.of(pool), pool.quorum(), state.round) {
         return Ok(Proposal::Lock(page));
     }
-    match state.candidates.top(&core.rules) {
-        Some(top) if select_due(&core.settings, state) => Ok(Proposal::Select(top)),
-        _ => Err(Refusal::NotYet),
-    }
+    state
+        .candidates
+        .top(&core.rules)
+        .filter(|_| select_due(&core.settings, state))
+        .map(Proposal::Select)
+        .ok_or(Refusal::NotYet)
 }
 
 // Sends the lock with the candidate seals of the q lowest members that name the page, or the select with the round-change

@@ -1,4 +1,4 @@
-use Rattle.std.proofs.Common.{Some, None, Ok, Err, sym, refl, ap, ◌∙◌}
+use Rattle.std.proofs.Common.{Some, None, Ok, Err, refl, ap, ◌∙◌}
 use Rattle.ballots.specs.Views.{records_view}
 use Rattle.holding.specs.Views.{box_of}
 use Rattle.judging.proofs.Fields.{read_fields}
