@@ -119,6 +119,7 @@ impl<S: Sealer + Drop> Seat<S> {
 
     // Gives a commit to the turn, unless it has none that counts.
     pub fn take_commit(&mut self, message: &[u8]) -> Answered {
+        // Kept: one phase of two is taken apart here, which is no Option.
         let Some(Turn::Counts(turn)) = &self.turn else {
             return Err(Fault::NoTurn);
         };
