@@ -28,14 +28,18 @@ fn not_before(latest: &Option<Latest>, round: Round) -> bool
 pub fn repeats(latest: &Option<Latest>, round: Round, page: &Option<Slip>) -> bool
     ensures { result ≡ repeats round.0 page.now (option_map latest_view latest.now) }
 {
-    latest.as_ref().is_some_and(|stated| stated.round == round && stated.page == *page)
+    latest
+        .as_ref()
+        .is_some_and(|stated| stated.round == round && stated.page == *page)
 }
 
 // Whether the latest statement is of the same round, with another page.
 fn differs(latest: &Option<Latest>, round: Round, page: &Option<Slip>) -> bool
     ensures { result ≡ other_page round.0 page.now (option_map latest_view latest.now) }
 {
-    latest.as_ref().is_some_and(|stated| stated.round == round && stated.page != *page)
+    latest
+        .as_ref()
+        .is_some_and(|stated| stated.round == round && stated.page != *page)
 }
 
 impl State {
