@@ -1,8 +1,16 @@
 // A list of at most N values in fixed memory.
-ghost use Rattle.std.specs.Prelude.{◌≤◌, take, length};
-ghost use Rattle.std.specs.Fn.{FnOnceReturnsAtMut};
+ghost use Rattle.std.specs.Prelude.{◌≤◌, List, take, length};
 
 use std::alloc::AllocError;
+
+// What alters values in place.
+pub trait Change<T> {
+    // whether it may leave values so, by what they were and what they are
+    ghost leaves: { Self → List T → List T → Type 0 };
+
+    fn change(self, values: &mut [T])
+        ensures { leaves self values.old values.new };
+}
 
 // The first `len` slots hold the values; what the others hold counts for nothing.
 #[derive(Copy)]
@@ -28,7 +36,6 @@ impl<T: Copy, const N: usize> Clone for Bounded<T, N> {
 impl<T: Copy, const N: usize> Bounded<T, N> {
     ghost use Rattle.std.specs.Prelude.{◌≡◌, ◌≤◌, ◌<◌, ◌+◌, ◌∷◌, ◌++◌, [], length, cond, Some, None, nat_le, nat_lt, take};
     ghost use Rattle.std.specs.Option.{option_map};
-    ghost use Rattle.std.specs.Fn.{FnOnceReturnsAtMut};
     ghost use Rattle.base.specs.Bounded.{items};
 
     // No value yet; `blank` stands in every slot.
@@ -93,19 +100,17 @@ impl<T: Copy, const N: usize> Bounded<T, N> {
     }
 
     // Lends the values to a change, which may alter them in place.
-    pub fn change<F: FnOnce(&mut [T])>(&mut self, change: F)
-        requires { F.IsAlwaysCallable change }
-        ensures { FnOnceReturnsAtMut F.FnOnce change (items self.old) tt (items self.new) }
+    pub fn change<C: Change<T>>(&mut self, change: C)
+        ensures { C.Change.leaves change (items self.old) (items self.new) }
     {
         change_front(&mut self.slots, self.len, change);
     }
 }
 
 // Lends the first `len` elements to a change.
-fn change_front<T: Copy, F: FnOnce(&mut [T])>(slots: &mut [T], len: usize, change: F)
-    requires always { F.IsAlwaysCallable change }
+fn change_front<T: Copy, C: Change<T>>(slots: &mut [T], len: usize, change: C)
     requires there { len ≤ length slots.old }
-    ensures { FnOnceReturnsAtMut F.FnOnce change (take len slots.old) tt (take len slots.new) }
+    ensures { C.Change.leaves change (take len slots.old) (take len slots.new) }
 {
-    change(&mut slots[..len]);
+    change.change(&mut slots[..len]);
 }

@@ -6,7 +6,7 @@ ghost use Rattle.protocol.specs.Rounds.{has_place, shelved, locked_at, unlocked,
 ghost use Rattle.shelf.specs.Views.{candidate_view, shelf_view, held_view};
 
 use crate::held::Held;
-use crate::marks::{keep_only, lock_at};
+use crate::marks::{Keeping, Locking};
 use crate::scans::{Locks, all_below, highest, knows, locks_of, top_of};
 use base::bounded::Bounded;
 use base::counters::Round;
@@ -72,15 +72,14 @@ impl Candidates {
     pub fn lock(&mut self, slip: &Slip, round: Round)
         ensures { shelf_view self.new ≡ locked_at slip.now round.0 (shelf_view self.old) }
     {
-        self.known
-            .change(|candidates| lock_at(candidates, slip, round));
+        self.known.change(Locking { slip, round });
     }
 
     // Takes every lock away.
     pub fn unlock(&mut self)
         ensures { shelf_view self.new ≡ unlocked (shelf_view self.old) }
     {
-        self.known.change(|candidates| keep_only(candidates, &None));
+        self.known.change(Keeping { only: &None });
     }
 
     // Whether the round is above that of every lock.
@@ -95,7 +94,7 @@ impl Candidates {
         ensures { shelf_view self.new ≡ keep_only (highest_lock (option_map held_view held.now) (locks_of (shelf_view self.old))) (shelf_view self.old) }
     {
         let only = highest(self.as_slice(), held);
-        self.known.change(|candidates| keep_only(candidates, &only));
+        self.known.change(Keeping { only: &only });
     }
 
     // The slip that ranks highest.

@@ -7,6 +7,7 @@ ghost use Rattle.shelf.specs.Locks.{lock_view, kept_in};
 
 use crate::candidates::Candidate;
 use crate::scans::Lock;
+use base::bounded::Change;
 use base::counters::Round;
 use base::slips::Slip;
 
@@ -45,5 +46,34 @@ pub(crate) fn keep_only(candidates: &mut [Candidate], only: &Option<Lock>)
 {
     for c in candidates.iter_mut() {
         c.lock = kept_in(&c.slip, only);
+    }
+}
+
+// Locks the slip in the round, as `lock_at` does.
+#[derive(Clone, Copy)]
+pub(crate) struct Locking<'a> {
+    pub(crate) slip: &'a Slip,
+    pub(crate) round: Round,
+}
+
+impl Change<Candidate> for Locking<'_> {
+    ghost leaves = { λ it old new. map candidate_view new ≡ locked_at it.slip.now it.round.0 (map candidate_view old) };
+
+    fn change(self, values: &mut [Candidate]) {
+        lock_at(values, self.slip, self.round);
+    }
+}
+
+// Takes every lock away but that one, as `keep_only` does.
+#[derive(Clone, Copy)]
+pub(crate) struct Keeping<'a> {
+    pub(crate) only: &'a Option<Lock>,
+}
+
+impl Change<Candidate> for Keeping<'_> {
+    ghost leaves = { λ it old new. map candidate_view new ≡ keep_only (option_map lock_view it.only.now) (map candidate_view old) };
+
+    fn change(self, values: &mut [Candidate]) {
+        keep_only(values, self.only);
     }
 }
