@@ -58,7 +58,7 @@ pub fn taken<'a>(rt: &impl Abort, out: &'a [u8], len: usize) -> &'a [u8] {
 }
 
 // What a writer appends to an empty outbox; gives back its length.
-pub fn length_of<F>(out: &mut [u8], write: F) -> Result<usize, Fail>
+pub(crate) fn length_of<F>(out: &mut [u8], write: F) -> Result<usize, Fail>
 where
     F: FnOnce(&mut [u8], &mut Fill) -> Result<(), Refusal>,
     requires { F.IsAlwaysCallable write }

@@ -325,12 +325,12 @@ fn drafts(rt: HostRuntime) {
     let mut fill = Fill { len: 5 };
     {
         let mut draft = Draft::begin(&mut fill);
-        draft.fill.add(&mut out, b"gone");
+        draft.fill().add(&mut out, b"gone");
     }
     assert_eq!(rt; fill.len, 5);
     let mut draft = Draft::begin(&mut fill);
-    draft.fill.add(&mut out, b"kept");
-    draft.fill.add(&mut out, b"too long for it");
+    draft.fill().add(&mut out, b"kept");
+    draft.fill().add(&mut out, b"too long for it");
     draft.finish();
     assert_eq!(rt; fill.len, 9);
     assert!(rt; taken(&rt, &out, 10) == b"\0\0\0\0\0kept\0".as_slice());

@@ -22,7 +22,7 @@ votes_push sort vs v = ap (map (vote_block sort)) (map-append signed_by vs (v �
 
 -- one more vote
 module _ (sort : ℕ) (vs : List Vote) (i : ℕ) (more : i < length vs) (v : Vote) (at : v ≡ get_or vs i v) where
-  blocks_more : vote_blocks sort (take (i + 1) vs) ≡ vote_blocks sort (take i vs) ++ vote_block sort (signed_by v) ∷ []
+  pub blocks_more : vote_blocks sort (take (i + 1) vs) ≡ vote_blocks sort (take i vs) ++ vote_block sort (signed_by v) ∷ []
   blocks_more = ap (vote_blocks sort) (take_more vs i v more) ∙ votes_push sort (take i vs) (get_or vs i v) ∙ ap (λ w. vote_blocks sort (take i vs) ++ vote_block sort (signed_by w) ∷ []) (sym at)
 
   -- its entry in the table

@@ -1,11 +1,13 @@
 // A draft is a message that is being written after the fill. Unless it is finished, the fill is given back.
 ghost use Rattle.std.specs.Prelude.{◌≡◌, ◌+◌, ◌<◌, ◌∷◌, length};
+ghost use Rattle.std.specs.Borrow.{sem};
 ghost use Rattle.base.specs.Kinds.{kind_number};
 ghost use Rattle.base.specs.Numbers.{be2};
 ghost use Rattle.base.specs.Slips.{slip_bytes};
 ghost use Rattle.base.specs.Sorts.{sort_number};
 ghost use Rattle.message.specs.Encoding.{header};
 ghost use Rattle.outbox.specs.Appending.{Adds};
+ghost use Rattle.outbox.specs.Lending.{LendsFill};
 
 use base::counters::Member;
 use base::slips::Slip;
@@ -34,7 +36,7 @@ impl Fill {
 
 // A message that is being written. It began where the fill stood.
 pub struct Draft<'a> {
-    pub fill: &'a mut Fill,
+    fill: &'a mut Fill,
     start: usize,
 }
 
@@ -57,6 +59,14 @@ impl<'a> Draft<'a> {
     {
         let start = fill.len;
         Draft { fill, start }
+    }
+
+    // Lends the fill for laying out. The draft stays over it.
+    pub fn fill(&mut self) -> &mut Fill
+        ensures* writes_back { sem 𝓛 (LendsFill self.entry result) }
+        ensures value { result.now ≡ self.old.fill.now }
+    {
+        &mut *self.fill
     }
 
     // Keeps what was written.

@@ -41,8 +41,8 @@ fn append<L: FnOnce(&mut Fill, &mut [u8])>(
     if !has_room(fill, out.len(), need) {
         return Err(Refusal::OutboxShort);
     }
-    let draft = Draft::begin(fill);
-    lay(draft.fill, out);
+    let mut draft = Draft::begin(fill);
+    lay(draft.fill(), out);
     draft.finish();
     Ok(())
 }

@@ -54,9 +54,9 @@ fn send<S: Sealer, T, M: FnOnce(&mut S) -> Result<T, Refusal>, L: FnOnce(&mut Fi
     if !has_room(fill, out.len(), need) {
         return Err(Refusal::OutboxShort);
     }
-    let draft = Draft::begin(fill);
+    let mut draft = Draft::begin(fill);
     let seals = make(sealer)?;
-    lay(draft.fill, out, &seals);
+    lay(draft.fill(), out, &seals);
     draft.finish();
     Ok(seals)
 }
