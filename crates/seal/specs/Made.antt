@@ -38,7 +38,7 @@ module _ (keys : List (List ℕ)) (own : ℕ) (statement : List ℕ) where
       ∙ ap (λ j. tag_of (key_of keys j) own statement) (sym is)
 
   -- the tag at each place
-  tag_at_lem : (k i : ℕ) → i < k → tag_at i (tags_below k keys own statement) ≡ tag_of (key_of keys i) own statement
+  pub tag_at_lem : (k i : ℕ) → i < k → tag_at i (tags_below k keys own statement) ≡ tag_of (key_of keys i) own statement
   tag_at_lem zero i h = absurd (omega arith)
   tag_at_lem (suc k) i h =
       let T = tags_below k keys own statement
@@ -56,7 +56,7 @@ unfolding row_seal
 row_whole keys own statement = length_tags keys own statement 10
 
 -- who shares the key finds the tag
-row_at : (keys : List (List ℕ)) (own i : ℕ) (statement : List ℕ) → i < 10 → tag_at i (row_seal keys own statement) ≡ tag_of (key_of keys i) own statement
+pub row_at : (keys : List (List ℕ)) (own i : ℕ) (statement : List ℕ) → i < 10 → tag_at i (row_seal keys own statement) ≡ tag_of (key_of keys i) own statement
 unfolding row_seal
 row_at keys own i statement h = tag_at_lem keys own statement 10 i h
 
