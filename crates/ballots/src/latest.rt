@@ -138,8 +138,11 @@ impl Called {
         } else {
             self.own < round
         };
+        if !ahead {
+            return false;
+        }
         let calls = in_round(latest, round);
-        ahead && calls >= 2 && calls - 2 >= self.tolerance
+        calls >= 2 && calls - 2 >= self.tolerance
     }
 
     // The highest round of a latest statement that is ahead, not below its own for a resting replica and else above it,

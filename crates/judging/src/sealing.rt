@@ -62,8 +62,8 @@ impl<C: Checker> Seals<'_, C> {
     fn votes(&self, statement: &Statement, votes: Reader<'_>) -> Result<(), Refusal>
         ensures { whole (place_of votes.entry) ≡ true → length (left (place_of votes.entry)) ≤ 7 → result ≡ passing (bad_seal (C.Checker.recognised self.now.checker.now) (vote_checks 2 self.now.inside statement.now (votes_at (place_of votes.entry)))) }
     {
-        for (vote, place) in votes.zip(2..) {
-            self.check(vote.member, statement, vote.part, place)?;
+        for (vote, place) in votes.zip(2u16..) {
+            self.check(vote.member, statement, vote.part, place.min(255) as u8)?;
         }
         Ok(())
     }
