@@ -5,6 +5,7 @@ use base::counters::{Height, Round};
 use base::refusals::Refusal;
 use base::seals::{Seal, Vote};
 use base::slips::Slip;
+use base::stages::Kind;
 use base::statements::{Statement, Word};
 use message::shapes::Head;
 use outbox::drafts::Fill;
@@ -14,6 +15,63 @@ use seal::stating::seal_statement;
 use std::alloc::Global;
 
 const ROOM: usize = 1024;
+
+// A seal on a statement with that word.
+// Kept: beside the method, since it asks for no heap.
+pub fn sealed<S: Sealer>(
+    sealer: &mut S,
+    word: Word,
+    height: Height,
+    round: Round,
+    page: Option<Slip>,
+) -> Result<Seal, Refusal> {
+    let statement = Statement {
+        word,
+        height,
+        round,
+        page,
+    };
+    seal_statement(sealer, &statement)
+}
+
+// The same with the name of the member that sealed.
+// Kept: beside the method, since it asks for no heap.
+pub fn vote<S: Sealer>(
+    sealer: &mut S,
+    word: Word,
+    height: Height,
+    round: Round,
+    page: Option<Slip>,
+) -> Result<Vote, Refusal> {
+    let member = sealer.member();
+    let seal = sealed(sealer, word, height, round, page)?;
+    Ok(Vote { member, seal })
+}
+
+// A lock, a select or, for any other kind, a decide on a page, with the votes given.
+// Kept: beside the method, since it takes any kind.
+pub fn certificate<S: Sealer>(
+    heap: Global,
+    sealer: &mut S,
+    kind: Kind,
+    height: Height,
+    round: Round,
+    page: Slip,
+    votes: &[Vote],
+) -> Result<Vec<u8>, Fault> {
+    let certified = match kind {
+        Kind::Lock => Certified::Lock,
+        Kind::Select => Certified::Select,
+        _ => Certified::Decide,
+    };
+    let mut forger = Forger {
+        heap,
+        sealer,
+        height,
+        round,
+    };
+    forger.certificate(certified, page, votes)
+}
 
 // A member that makes messages of one height and round.
 #[derive(Drop)]
@@ -27,20 +85,12 @@ pub struct Forger<'a, S> {
 impl<S: Sealer> Forger<'_, S> {
     // A seal on a statement with that word.
     pub fn seal(&mut self, word: Word, page: Option<Slip>) -> Result<Seal, Refusal> {
-        let statement = Statement {
-            word,
-            height: self.height,
-            round: self.round,
-            page,
-        };
-        seal_statement(self.sealer, &statement)
+        sealed(self.sealer, word, self.height, self.round, page)
     }
 
     // The same with the name of the member that sealed.
     pub fn vote(&mut self, word: Word, page: Option<Slip>) -> Result<Vote, Refusal> {
-        let member = self.sealer.member();
-        let seal = self.seal(word, page)?;
-        Ok(Vote { member, seal })
+        vote(self.sealer, word, self.height, self.round, page)
     }
 
     // What is written to an outbox, under the member's own head.
