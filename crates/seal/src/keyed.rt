@@ -74,7 +74,7 @@ impl<K: SealKind> Sealer for Keyed<K> {
         if out.len() < K::length() {
             return Err(Refusal::OutboxShort);
         }
-        K::write(&self.ring, statement, out);
+        K::write_whole(&self.ring, statement, out);
         self.ring.left -= 1;
         Ok(())
     }

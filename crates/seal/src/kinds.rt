@@ -22,10 +22,20 @@ pub trait SealKind {
     fn knows(ring: &KeyRing, member: Member, statement: &[u8], seal: &[u8]) -> bool
         ensures { result ≡ knows ring.now.keys ring.now.own.0 member.0 statement.now seal.now };
 
-    // Writes the holder's seal on the statement to the front of `out`, or nothing where there is no room for it.
+    // Writes the holder's seal on the statement to the front of `out`, where there is room for it.
     fn write(ring: &KeyRing, statement: &[u8], out: &mut [u8])
+        ensures { long ≤ length out.old → out.new ≡ wrote 0 (made ring.now.keys ring.now.own.0 statement.now) out.old };
+
+    // Writes it, or nothing where there is no room for it.
+    final fn write_whole(ring: &KeyRing, statement: &[u8], out: &mut [u8])
         ensures written { long ≤ length out.old → out.new ≡ wrote 0 (made ring.now.keys ring.now.own.0 statement.now) out.old }
-        ensures kept { length out.old < long → out.new ≡ out.old };
+        ensures kept { length out.old < long → out.new ≡ out.old }
+    {
+        if out.len() < Self::length() {
+            return;
+        }
+        Self::write(ring, statement, out);
+    }
 
     // from 1 to 80
     ghost sizes: { (1 ≤ long) × (long ≤ 80) };

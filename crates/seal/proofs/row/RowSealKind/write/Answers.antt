@@ -18,9 +18,9 @@ loop-i-preserved c room =
     in put_next 0 (8 * i) T t c.tag.result out c.loop-i.out c.put.new.out (c.loop-i.invariant room) c.tag.ensures.bytes (omega (arith, room)) (omega (arith, length_eight_bytes, room)) c.put.ensures.written
     ∙ ap (λ k. wrote 0 (tags_below k keys own st) out) (sym (add-one i))
 
-pub returns-clause-written : goal.returns-clause-written
+pub returns : goal.returns
 unfolding row_seal
-returns-clause-written c room =
+returns c room =
     let s = c.args.ring.now
     in let all : c.loop-i.i ≡ 10 = omega arith
     in c.loop-i.invariant room ∙ ap (λ k. wrote 0 (tags_below k s.keys s.own.0 c.args.statement.now) c.args.out.now) all
